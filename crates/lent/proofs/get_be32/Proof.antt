@@ -1,0 +1,21 @@
+-- `lent::get_be32` meets its contract: the four bytes are read one by one.
+-- Assumes nothing.
+use Prim.Native.Nat.{ℕ, _+_, _-_, _≤_}
+use mathlib.Core.Path.{_≡_, refl, sym, ap, _∙_}
+use borrow.Author.Needs.{needs}
+use native.Mathlib.Omega.{arith}
+use lib.ListN.{length, getD, length-set}
+use Rattle.lent.specs.Word.{ofBe}
+use Rattle.lent.proofs.Words.{part-four}
+use Rattle.lent.proofs.get_be32.Statement.{statement}
+use Rattle.lent.proofs.get_be32.Tie as tie
+
+returns : tie.Need-returns
+unfolding ofBe
+returns c =
+    let a = c .before .before .before .before .before .before .before .before .before in
+    rw (part-four (a .args .s .now) (a .args .at) (a .pre)) (omega arith)
+
+pub get-be32-spec : {M : Type 1} → statement M
+get-be32-spec =
+    tie.close (tie.spec (λ c. search needs) (λ c κs. search needs) (λ c. search needs) (λ c. search needs) (λ c. search needs) (λ c κs. search needs) (λ c. search needs) (λ c. search needs) (λ c. search needs) (λ c. search needs) (λ c κs. search needs) (λ c. search needs) (λ c. search needs) (λ c. search needs) (λ c. search needs) (λ c κs. search needs) (λ c. search needs) returns)
