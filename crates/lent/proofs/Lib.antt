@@ -1,3 +1,5 @@
 pub mod Parts
 pub mod Tabs
 pub mod Words
+pub mod Arrays
+pub mod Bounds
