@@ -7,9 +7,10 @@ use native.Mathlib.Nat.{zero-add}
 use native.Mathlib.Omega.{arith}
 use lib.ListN.{length, getD, set}
 use lib.Seq.{sets}
-use Rattle.lent.specs.Bytes.{tab}
+use lib.Bits.{bitXor}
+use Rattle.lent.specs.Bytes.{tab, xors}
 use Rattle.lent.proofs.Parts.{sets-all}
-use Rattle.lent.proofs.Tabs.{Filled, filled-more, filled-all, length-tab, tab-front}
+use Rattle.lent.proofs.Tabs.{Filled, filled-more, filled-all, length-tab, tab-front, tab-ext, tab-xors}
 
 -- one more element
 pub filled-next : {l₀ l : List ℕ} {n i : ℕ} {f : ℕ → ℕ} (v : ℕ) → Filled l₀ 0 n f l i → i < n → v ≡ f i → Filled l₀ 0 n f (set l i v) (i + 1)
@@ -24,3 +25,9 @@ module _ {A : Type 0} where
   getD-tab zero f i d h = absurd (omega arith)
   getD-tab (suc n) f zero d h = rw tab-front
   getD-tab (suc n) f (suc i) d h = rw (tab-front n f) (getD-tab n (λ j. f (suc j)) i d (omega arith))
+
+-- exclusive or of a list with what a loop makes, element by element
+pub xors-tab : (xs : List ℕ) (f : ℕ → ℕ) → tab (length xs) (λ i. bitXor (getD xs i 0) (f i)) ≡ xors xs (tab (length xs) f)
+xors-tab xs f =
+    tab-ext (length xs) _ _ (λ i h. ap (bitXor (getD xs i 0)) (sym (getD-tab (length xs) f i 0 h)))
+    ∙ tab-xors xs (tab (length xs) f) (sym (length-tab (length xs) f))

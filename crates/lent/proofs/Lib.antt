@@ -3,3 +3,4 @@ pub mod Tabs
 pub mod Words
 pub mod Arrays
 pub mod Bounds
+pub mod Places

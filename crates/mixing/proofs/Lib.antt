@@ -1,0 +1,4 @@
+pub mod Laws
+pub mod Carry
+pub mod Turns
+pub mod Vectors
