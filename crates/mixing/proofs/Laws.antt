@@ -1,7 +1,7 @@
 -- What callers of BlockMix cite: its length, and that it makes bytes, whatever it is given.
 -- Assumes nothing.
 use mathlib.Core.Path.{_≡_, refl}
-use mathlib.Core.List.{List}
+use mathlib.Core.List.{List, _++_}
 use Prim.Native.Nat.{ℕ, zero, suc, _+_, _*_, _≤_}
 use native.Mathlib.Omega.{arith}
 use lib.ListN.{length, length-append}
@@ -23,18 +23,22 @@ joined-bytes (suc n) f h = below-append 256 (joined n f) (f n) (joined-bytes n f
 
 pub length-Y : (r : ℕ) (B : List ℕ) (i : ℕ) → length (Y r B i) ≡ 64
 unfolding X Y
-length-Y r B i = length-salsaBytes 8 _
+length-Y r B i = length-salsaBytes _ _
 
 pub Y-bytes : (r : ℕ) (B : List ℕ) (i : ℕ) → Bytes (Y r B i)
 unfolding X Y
-Y-bytes r B i = salsaBytes-bytes 8 _
+Y-bytes r B i = salsaBytes-bytes _ _
 
 pub length-blockMix : (r : ℕ) (B : List ℕ) → length (blockMix r B) ≡ 128 * r
 unfolding blockMix
 length-blockMix r B =
-    rw (length-append, length-joined r (λ i. Y r B (2 * i)) (λ i. length-Y r B (2 * i)), length-joined r (λ i. Y r B (2 * i + 1)) (λ i. length-Y r B (2 * i + 1))) (omega arith)
+    let evens = length-joined r (λ i. Y r B (2 * i)) (λ i. length-Y r B (2 * i)) in
+    let odds = length-joined r (λ i. Y r B (2 * i + 1)) (λ i. length-Y r B (2 * i + 1)) in
+    rw length-append (omega arith)
 
 pub blockMix-bytes : (r : ℕ) (B : List ℕ) → Bytes (blockMix r B)
 unfolding blockMix
 blockMix-bytes r B =
-    below-append 256 (joined r (λ i. Y r B (2 * i))) (joined r (λ i. Y r B (2 * i + 1))) (joined-bytes r (λ i. Y r B (2 * i)) (λ i. Y-bytes r B (2 * i))) (joined-bytes r (λ i. Y r B (2 * i + 1)) (λ i. Y-bytes r B (2 * i + 1)))
+    let evens = joined-bytes r (λ i. Y r B (2 * i)) (λ i. Y-bytes r B (2 * i)) in
+    let odds = joined-bytes r (λ i. Y r B (2 * i + 1)) (λ i. Y-bytes r B (2 * i + 1)) in
+    below-append 256 (joined r (λ i. Y r B (2 * i))) (joined r (λ i. Y r B (2 * i + 1))) evens odds

@@ -54,7 +54,7 @@ fn place(i: usize, r: usize) -> usize
     requires { ⌜ (i < 2 * r) × (r ≤ 64) ⌝ }
     ensures { λ k. ⌜ (k < 2 * r) × (k ≡ i / 2 + i % 2 * r) ⌝ }
 {
-    i / 2 + i % 2 * r
+    i % 2 * r + i / 2
 }
 
 // Writes BlockMix of the block of 2 * r pieces at place from over the block at place to, which lies apart. Each turn

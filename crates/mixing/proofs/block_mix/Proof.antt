@@ -3,6 +3,7 @@
 use mathlib.Core.Path.{ap}
 use Prim.Native.Nat.{_-_}
 use Rattle.mixing.proofs.Turns.{Blocks, Mixed, mixed-none, mixed-more, mixed-all}
+use native.Mathlib.Omega.{arith}
 use borrow.Author.Needs.{needs}
 use Rattle.mixing.proofs.block_mix.Statement.{statement}
 use Rattle.mixing.proofs.block_mix.Tie as tie
@@ -16,7 +17,7 @@ abbrev μ-loop : tie.MeasureT-loop
 blocks : (c : tie.After-slice-known Inv-loop μ-loop) → Blocks (c .before .args .s .now) (c .before .args .from) (c .before .args .to) (c .before .args .r)
 blocks c =
     let pre = c .before .pre in
-    record { some = pre .0; reads = pre .2; writes = pre .3; apart = pre .4; bytes = λ i. c .slice-known .given i .fits }
+    record { some = pre .0; reads = pre .2; writes = pre .3; apart = omega arith; bytes = λ i. c .slice-known .given i .fits }
 
 loop-holds : tie.Need-loop-holds Inv-loop μ-loop
 loop-holds c = mixed-none (blocks (c .before .before)) (c .xored .ensures)

@@ -1,6 +1,5 @@
 -- `mixing::place` meets its contract: half of i is below r, and what is added to it is 0 or r.
 -- Assumes nothing.
-use mathlib.Core.Path.{refl}
 use Prim.Native.Nat.{ℕ, _*_, _%_, _≤_}
 use native.Mathlib.Nat.{mul-le-mul-right}
 use native.Mathlib.Omega.{arith}
@@ -17,7 +16,7 @@ add-result : tie.Need-add-result
 add-result c = omega (arith, most (c .args .i) (c .args .r))
 
 returns : tie.Need-returns
-returns c = (omega (arith, most (c .args .i) (c .args .r)), refl)
+returns c = omega (arith, most (c .args .i) (c .args .r))
 
 pub place-spec : {M : Type 1} → statement M
 place-spec = tie.close (tie.spec mul-result add-result returns)
