@@ -1,12 +1,11 @@
 -- Laws of arrays that a loop fills from their first element on: `Filled` at place 0, and the elements of `tab`.
 -- Assumes nothing.
-use mathlib.Core.Path.{_≡_, refl, sym, ap, _∙_}
-use mathlib.Core.List.{List, [], _∷_, _++_}
+use mathlib.Core.Path.{_≡_, sym, ap, _∙_}
+use mathlib.Core.List.{List}
 use Prim.Native.Nat.{ℕ, zero, suc, _+_, _≤_, _<_}
 use native.Mathlib.Nat.{zero-add}
 use native.Mathlib.Omega.{arith}
 use lib.ListN.{length, getD, set}
-use lib.Seq.{sets}
 use lib.Bits.{bitXor}
 use Rattle.lent.specs.Bytes.{tab, xors}
 use Rattle.lent.proofs.Parts.{sets-all}

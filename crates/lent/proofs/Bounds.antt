@@ -1,15 +1,15 @@
 -- Lists whose elements lie below a bound, bytes and words alike, and exclusive or of the numbers that bytes say.
--- By induction on the lists. Assumes nothing.
-use mathlib.Core.Path.{_≡_, refl, sym, ap, ap₂, _∙_}
+-- By induction on the lists.
+-- Assumes nothing.
+use mathlib.Core.Path.{_≡_, refl, sym}
 use mathlib.Core.List.{List, [], _∷_, _++_}
-use Prim.Native.Nat.{ℕ, zero, suc, _+_, _*_, _/_, _%_, _^_, _≤_, _<_}
-use native.Mathlib.Nat.{mod-lt, add-comm, mul-comm}
+use Prim.Native.Nat.{ℕ, zero, suc, _+_, _*_, _/_, _^_, _<_}
 use native.Mathlib.Decide.{decLt}
 use native.Mathlib.Omega.{arith}
 use lib.Bits.{bitXor, xor-lt, xor-block}
 use lib.Pow.{pow-pos}
 use lib.ListN.{length, getD, take, drop, List·getD-eq-default}
-use lib.Seq.{getD-take, getD-drop}
+use lib.Seq.{getD-drop}
 use Rattle.lent.specs.Bytes.{part, tab, xors, Bytes}
 use Rattle.lent.specs.Word.{le, ofLe}
 use Rattle.lent.proofs.Tabs.{length-tab}

@@ -1,15 +1,14 @@
 -- What callers of BlockMix cite: its length, and that it makes bytes, whatever it is given.
 -- Assumes nothing.
 use mathlib.Core.Path.{_≡_, refl}
-use mathlib.Core.List.{List, _++_}
-use Prim.Native.Nat.{ℕ, zero, suc, _+_, _*_, _≤_}
+use mathlib.Core.List.{List}
+use Prim.Native.Nat.{ℕ, zero, suc, _+_, _*_}
 use native.Mathlib.Omega.{arith}
 use lib.ListN.{length, length-append}
-use Rattle.lent.specs.Bytes.{Bytes, xors}
+use Rattle.lent.specs.Bytes.{Bytes}
 use Rattle.lent.proofs.Bounds.{below-nil, below-append}
-use Rattle.salsa.specs.Salsa.{salsaBytes}
 use Rattle.salsa.proofs.Laws.{length-salsaBytes, salsaBytes-bytes}
-use Rattle.mixing.specs.BlockMix.{piece, X, Y, joined, blockMix}
+use Rattle.mixing.specs.BlockMix.{X, Y, joined, blockMix}
 
 pub length-joined : (n : ℕ) (f : ℕ → List ℕ) → ((i : ℕ) → length (f i) ≡ 64) → length (joined n f) ≡ 64 * n
 unfolding joined

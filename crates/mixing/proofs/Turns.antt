@@ -1,8 +1,9 @@
 -- The turns of BlockMix in the order in which the code makes them: results laid at their last places at once are the RFC's result.
--- By cases on whether a turn is even; writes at places apart commute. Assumes nothing.
-use mathlib.Core.Path.{_≡_, refl, sym, ap, ap₂, _∙_}
-use mathlib.Core.List.{List, [], _∷_, _++_}
-use Prim.Native.Nat.{ℕ, zero, suc, _+_, _-_, _*_, _/_, _%_, _≤_, _<_}
+-- By cases on whether a turn is even; writes at places apart commute.
+-- Assumes nothing.
+use mathlib.Core.Path.{_≡_, refl, sym, ap, _∙_}
+use mathlib.Core.List.{List, _++_}
+use Prim.Native.Nat.{ℕ, suc, _+_, _-_, _*_, _/_, _%_, _≤_, _<_}
 use native.Mathlib.Numerals.{add-one}
 use native.Mathlib.Decide.{decLt}
 use native.Mathlib.Omega.{arith}
@@ -14,7 +15,7 @@ use Rattle.lent.proofs.Places.{part-sets-apart}
 use Rattle.lent.proofs.Bounds.{below-part}
 use Rattle.salsa.specs.Salsa.{salsa, salsaBytes, words, bytes}
 use Rattle.salsa.proofs.Coding.{words-xors}
-use Rattle.salsa.proofs.Laws.{length-salsaBytes, salsaBytes-bytes, words-salsaBytes}
+use Rattle.salsa.proofs.Laws.{words-salsaBytes}
 use Rattle.mixing.specs.BlockMix.{piece, X, Y, joined, blockMix}
 use Rattle.mixing.proofs.Laws.{length-joined, length-Y, Y-bytes}
 
@@ -25,16 +26,16 @@ place r i = i / 2 + i % 2 * r
 -- ---- any pieces f 0, f 1, .. of 64 bytes, laid even places first
 
 module _ (r : ℕ) (s : List ℕ) (to : ℕ) (f : ℕ → List ℕ) where
-  -- a even places and b odd ones
-  shared : ℕ → ℕ → List ℕ
-  shared a b = sets (sets s to (joined a (λ k. f (2 * k)))) (to + 64 * r) (joined b (λ k. f (2 * k + 1)))
+  -- the first a of the even ones, and the first b of the odd ones
+  halves : ℕ → ℕ → List ℕ
+  halves a b = sets (sets s to (joined a (λ k. f (2 * k)))) (to + 64 * r) (joined b (λ k. f (2 * k + 1)))
 
   -- after i turns
   pub laidOut : ℕ → List ℕ
-  laidOut i = shared (i - i / 2) (i / 2)
+  laidOut i = halves (i - i / 2) (i / 2)
 
   pub laid-none : laidOut 0 ≡ s
-  unfolding shared laidOut joined
+  unfolding halves laidOut joined
   laid-none = refl
 
   module _ (long : (i : ℕ) → length (f i) ≡ 64) where
@@ -44,15 +45,15 @@ module _ (r : ℕ) (s : List ℕ) (to : ℕ) (f : ℕ → List ℕ) where
     odds : (b : ℕ) → length (joined b (λ k. f (2 * k + 1))) ≡ 64 * b
     odds b = length-joined b (λ k. f (2 * k + 1)) (λ k. long (2 * k + 1))
 
-    even-more : (a b : ℕ) → a < r → sets (shared a b) (to + 64 * a) (f (2 * a)) ≡ shared (suc a) b
-    unfolding shared joined
+    even-more : (a b : ℕ) → a < r → sets (halves a b) (to + 64 * a) (f (2 * a)) ≡ halves (suc a) b
+    unfolding halves joined
     even-more a b h =
         let wide : length (f (2 * a)) ≡ 64 = long (2 * a) in
         sym (sets-comm (sets s to (joined a (λ k. f (2 * k)))) (to + 64 * a) (f (2 * a)) (to + 64 * r) (joined b (λ k. f (2 * k + 1))) (omega arith))
         ∙ ap (λ (l : List ℕ). sets l (to + 64 * r) (joined b (λ k. f (2 * k + 1)))) (rw (sets-append s to, evens a))
 
-    odd-more : (a b : ℕ) → sets (shared a b) (to + 64 * (b + r)) (f (2 * b + 1)) ≡ shared a (suc b)
-    unfolding shared joined
+    odd-more : (a b : ℕ) → sets (halves a b) (to + 64 * (b + r)) (f (2 * b + 1)) ≡ halves a (suc b)
+    unfolding halves joined
     odd-more a b =
         let at : to + 64 * (b + r) ≡ to + 64 * r + 64 * b = omega arith in
         rw (at, sets-append, odds b)
@@ -80,7 +81,7 @@ module _ (r : ℕ) (s : List ℕ) (to : ℕ) (f : ℕ → List ℕ) where
             rw (a′, b′, z, p) (rw e at (odd-more (i - i / 2) (i / 2)))
 
     pub laid-all : laidOut (2 * r) ≡ sets s to (joined r (λ k. f (2 * k)) ++ joined r (λ k. f (2 * k + 1)))
-    unfolding laidOut shared
+    unfolding laidOut halves
     laid-all =
         let half : 2 * r / 2 ≡ r = omega arith in
         let rest : 2 * r - r ≡ r = omega arith in
@@ -88,7 +89,7 @@ module _ (r : ℕ) (s : List ℕ) (to : ℕ) (f : ℕ → List ℕ) where
 
     -- what lies apart from the block is not written
     pub laid-apart : (from : ℕ) → Apart (128 * r) from to → (i : ℕ) → i ≤ 2 * r → (at n : ℕ) → (from ≤ at) × (at + n ≤ from + 128 * r) → part at n (laidOut i) ≡ part at n s
-    unfolding laidOut shared
+    unfolding laidOut halves
     laid-apart from apart i h at n reads =
         let a = evens (i - i / 2) in
         let b = odds (i / 2) in
@@ -119,6 +120,10 @@ piece-bytes : {s : List ℕ} {from to r : ℕ} → Blocks s from to r → (k : �
 unfolding piece
 piece-bytes {s} {from} {to} {r} b k = below-part 256 (64 * k) 64 (block s from r) (below-part 256 from (128 * r) s (b .bytes))
 
+words-next : {s : List ℕ} {from to r : ℕ} → Blocks s from to r → (k : ℕ) → k < 2 * r → (x : List ℕ) → length x ≡ 64 → Bytes x
+    → words 16 (xors x (piece k (block s from r))) ≡ xors (words 16 x) (words 16 (piece k (block s from r)))
+words-next b k h x long all = words-xors 16 x _ long (length-piece b k h) all (piece-bytes b k)
+
 -- The invariant of the loop, before turn i: the results so far are laid out, and x is what goes into the next core.
 pub record Mixed (s₀ : List ℕ) (from to r : ℕ) (s x : List ℕ) (i : ℕ) : Type 0 where
   pub is : s ≡ laidOut r s₀ to (Y r (block s₀ from r)) i
@@ -133,8 +138,7 @@ mixed-none {s} {x} {from} {to} {r} b e =
     let one : from + 64 * 0 ≡ from = omega arith in
     let first : 0 < 2 * r = omega arith in
     let last : 2 * r - 1 < 2 * r = omega arith in
-    let T : words 16 (xors (piece (2 * r - 1) B) (piece 0 B)) ≡ xors (words 16 (piece (2 * r - 1) B)) (words 16 (piece 0 B)) =
-    words-xors 16 (piece (2 * r - 1) B) (piece 0 B) (length-piece b (2 * r - 1) last) (length-piece b 0 first) (piece-bytes b (2 * r - 1)) (piece-bytes b 0) in
+    let T = words-next b 0 first (piece (2 * r - 1) B) (length-piece b (2 * r - 1) last) (piece-bytes b (2 * r - 1)) in
     record {
       is = sym (laid-none r s to (Y r B));
       kept = refl;
@@ -157,7 +161,7 @@ carried {s} {from} {to} {r} b i h =
     let B = block s from r in
     let T = xors (X r B i) (piece i B) in
     sym
-    (words-xors 16 (salsaBytes 8 T) (piece (suc i) B) (length-Y r B i) (length-piece b (suc i) h) (Y-bytes r B i) (piece-bytes b (suc i))
+    (words-next b (suc i) h (salsaBytes 8 T) (length-Y r B i) (Y-bytes r B i)
     ∙ ap (λ (l : List ℕ). xors l (words 16 (piece (suc i) B))) (words-salsaBytes 8 T))
 
 pub mixed-more :

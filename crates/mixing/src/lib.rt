@@ -23,7 +23,7 @@ fn xored(s: &[u8], a: usize, b: usize) -> [u32; 16]
 }
 
 // Writes the words y at place to, and answers them exclusive or those of the piece at place from, which lies apart.
-// A store and a load by turns keep each word in a register.
+// One loop does both: the compiler makes slower code of a loop of stores and a loop of loads.
 fn laid(s: &mut [u8], from: usize, to: usize, y: [u32; 16]) -> [u32; 16]
     requires { ⌜ (from + 64 ≤ length (now s)) × (to + 64 ≤ length (now s)) × Apart 64 from to ⌝ }
     ensures { λ r. ⌜ (now (s .exit) ≡ sets (now (s .entry)) to (bytes y)) × (r ≡ xors y (words 16 (part from 64 (now (s .entry))))) ⌝ }

@@ -1,11 +1,11 @@
 -- What callers of the core cite, over the number of rounds: lengths and bounds. None looks into a round.
 -- Assumes nothing.
-use mathlib.Core.Path.{_≡_, refl, sym, ap, _∙_}
+use mathlib.Core.Path.{_≡_, sym, ap, _∙_}
 use mathlib.Core.List.{List}
-use Prim.Native.Nat.{ℕ, zero, suc, _+_, _*_, _%_, _^_, _≤_, _<_}
+use Prim.Native.Nat.{ℕ, _^_}
 use native.Mathlib.Omega.{arith}
 use lib.ListN.{length, getD}
-use Rattle.lent.specs.Bytes.{tab, Bytes}
+use Rattle.lent.specs.Bytes.{Bytes}
 use Rattle.lent.specs.Word.{plus}
 use Rattle.lent.proofs.Tabs.{length-tab}
 use Rattle.lent.proofs.Bounds.{below-tab}

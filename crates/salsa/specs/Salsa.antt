@@ -1,7 +1,7 @@
 -- The Salsa20 core, over the number of rounds: RFC 7914 section 3, and sections 3 to 8 of the public Salsa20 specification.
 -- A block is sixteen 32-bit words, x[0] .. x[15], as a list.
 use mathlib.Core.List.{List, [], _∷_, _++_}
-use Prim.Native.Nat.{ℕ, zero, suc, _*_, _/_, _%_, _^_, _<_}
+use Prim.Native.Nat.{ℕ, zero, suc, _*_, _/_, _^_, _<_}
 use lib.Bits.{bitXor}
 use lib.ListN.{getD, set}
 use Rattle.lent.specs.Bytes.{part, tab}

@@ -1,4 +1,4 @@
--- `cores::pattern` ends and is safe: the loop stays within s, and no number in it is above 2,048 times five and three.
+-- `cores::pattern` ends and is safe: the loop stays within s, and s is short.
 -- Assumes nothing.
 use mathlib.Core.Path.{_≡_}
 use Prim.Native.Nat.{_-_, _≤_}
@@ -15,17 +15,4 @@ abbrev μ-loop : tie.MeasureT-loop
 
 pub pattern-spec : {M : Type 1} → statement M
 pattern-spec =
-    tie.close
-    (tie.spec
-    Inv-loop
-    μ-loop
-    (λ c. search needs)
-    (λ c. search needs)
-    (λ c. search needs)
-    (λ c. search needs)
-    (λ c. search needs)
-    (λ c. search needs)
-    (λ c. search needs)
-    (λ c. search needs)
-    (λ c. search needs)
-    (λ c. search needs))
+    tie.close (tie.spec Inv-loop μ-loop (λ c. search needs) (λ c. search needs) (λ c. search needs) (λ c. search needs) (λ c. search needs) (λ c. search needs) (λ c. search needs) (λ c. search needs) (λ c. search needs) (λ c. search needs))

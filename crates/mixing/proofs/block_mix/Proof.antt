@@ -1,6 +1,5 @@
 -- `mixing::block_mix` meets its contract: before turn i the first i results lie at their last places, and x is what goes into the next core.
 -- Assumes nothing.
-use mathlib.Core.Path.{ap}
 use Prim.Native.Nat.{_-_}
 use Rattle.mixing.proofs.Turns.{Blocks, Mixed, mixed-none, mixed-more, mixed-all}
 use native.Mathlib.Omega.{arith}
@@ -34,26 +33,4 @@ returns c = mixed-all (c .before .loop .inv) (c .loop-test .left)
 
 pub block-mix-spec : {M : Type 1} → statement M
 block-mix-spec =
-    tie.close
-    (tie.spec
-    Inv-loop
-    μ-loop
-    (λ c. search needs)
-    (λ c. search needs)
-    (λ c. search needs)
-    (λ c. search needs)
-    (λ c κs. search needs)
-    loop-holds
-    (λ c κs. search needs)
-    (λ c κs. search needs)
-    (λ c. search needs)
-    (λ c. search needs)
-    (λ c κs. search needs)
-    (λ c. search needs)
-    (λ c. search needs)
-    (λ c κs. search needs)
-    (λ c. search needs)
-    (λ c. search needs)
-    loop-again
-    (λ c. search needs)
-    returns)
+    tie.close (tie.spec Inv-loop μ-loop (λ c. search needs) (λ c. search needs) (λ c. search needs) (λ c. search needs) (λ c κs. search needs) loop-holds (λ c κs. search needs) (λ c κs. search needs) (λ c. search needs) (λ c. search needs) (λ c κs. search needs) (λ c. search needs) (λ c. search needs) (λ c κs. search needs) (λ c. search needs) (λ c. search needs) loop-again (λ c. search needs) returns)

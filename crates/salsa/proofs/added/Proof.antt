@@ -2,7 +2,7 @@
 -- Assumes nothing.
 use mathlib.Core.Path.{refl}
 use Prim.Native.Nat.{_-_}
-use lib.ListN.{getD, take}
+use lib.ListN.{getD}
 use Rattle.lent.specs.Word.{plus}
 use Rattle.lent.proofs.Tabs.{Filled, filled-none}
 use Rattle.lent.proofs.Arrays.{filled-next, filled-whole}
@@ -29,19 +29,4 @@ returns c = filled-whole (c .before .loop .inv) (c .loop-test .left) refl
 
 pub added-spec : {M : Type 1} → statement M
 added-spec =
-    tie.close
-    (tie.spec
-    Inv-loop
-    μ-loop
-    loop-holds
-    (λ c. search needs)
-    (λ c. search needs)
-    (λ c. search needs)
-    (λ c. search needs)
-    (λ c κs. search needs)
-    (λ c. search needs)
-    (λ c. search needs)
-    (λ c. search needs)
-    (λ c. search needs)
-    loop-again
-    returns)
+    tie.close (tie.spec Inv-loop μ-loop loop-holds (λ c. search needs) (λ c. search needs) (λ c. search needs) (λ c. search needs) (λ c κs. search needs) (λ c. search needs) (λ c. search needs) (λ c. search needs) (λ c. search needs) loop-again returns)
