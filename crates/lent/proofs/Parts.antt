@@ -145,3 +145,12 @@ module _ {A : Type 0} where
   pub getD-sets-apart : (l : List A) (n from to : ℕ) (vs : List A) (i : ℕ) (d : A) → Apart n from to → i < n → length vs ≤ i → getD (sets l to vs) (from + i) d ≡ getD l (from + i) d
   getD-sets-apart l n from to vs i d apart h k =
       elim (decLe to from) [ yes below ↦ getD-sets-after l to vs (from + i) d (omega arith) | no above ↦ getD-sets-before l to vs (from + i) d (omega arith) ]
+
+  -- places apart, in either order: what a write of n elements leaves of a part of n elements, and two such writes
+  pub part-sets-apart : (n : ℕ) (l : List A) (at i : ℕ) (vs : List A) → length vs ≡ n → Apart n at i → part at n (sets l i vs) ≡ part at n l
+  part-sets-apart n l at i vs e apart =
+      elim (decLe i at) [ yes below ↦ part-sets-after at n l i vs (omega arith) | no above ↦ part-sets-before at n l i vs (omega arith) ]
+
+  pub sets-apart : (n : ℕ) (l : List A) (i : ℕ) (a : List A) (j : ℕ) (b : List A) → length a ≡ n → length b ≡ n → Apart n i j → sets (sets l i a) j b ≡ sets (sets l j b) i a
+  sets-apart n l i a j b e f apart =
+      elim (decLe j i) [ yes below ↦ sym (sets-comm l j b i a (omega arith)) | no above ↦ sets-comm l i a j b (omega arith) ]

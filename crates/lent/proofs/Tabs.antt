@@ -12,7 +12,7 @@ use lib.ListN.{length, getD, set, take, drop, length-set, length-append}
 use lib.Seq.{take-suc, sets, getD-drop, ext-getD}
 use borrow.Author.Tests.{eqb-true, eq-eqb, ne-eqb}
 use Rattle.lent.specs.Bytes.{part, zeros, tab, xors, eqs}
-use Rattle.lent.proofs.Parts.{sets-snoc}
+use Rattle.lent.proofs.Parts.{sets-snoc, length-part, getD-part}
 
 -- ---- what a filling loop has made
 
@@ -85,6 +85,17 @@ tab-xors [] ys h = refl
 tab-xors (x ∷ xs) [] h = absurd (omega arith)
 tab-xors (x ∷ xs) (y ∷ ys) h =
     tab-front (length xs) (λ i. bitXor (getD (x ∷ xs) i 0) (getD (y ∷ ys) i 0)) ∙ ap (λ (l : List ℕ). bitXor x y ∷ l) (tab-xors xs ys (omega arith))
+
+-- the exclusive or of two parts of one list
+pub tab-xor-parts : (l : List ℕ) (a b n : ℕ) → a + n ≤ length l → b + n ≤ length l → tab n (λ j. bitXor (getD l (a + j) 0) (getD l (b + j) 0)) ≡ xors (part a n l) (part b n l)
+tab-xor-parts l a b n ha hb =
+    let xs = part a n l in
+    let ys = part b n l in
+    let long : length xs ≡ n = length-part a n l ha in
+    let as-long : length ys ≡ n = length-part b n l hb in
+    tab-ext n _ _ (λ i h. ap₂ bitXor (sym (getD-part a n l i 0 h)) (sym (getD-part b n l i 0 h)))
+    ∙ ap (λ (k : ℕ). tab k (λ i. bitXor (getD xs i 0) (getD ys i 0))) (sym long)
+    ∙ tab-xors xs ys (long ∙ sym as-long)
 
 pub eqs-refl : (xs : List ℕ) → eqs xs xs ≡ true
 unfolding eqs

@@ -7,6 +7,11 @@ use lib.Dec.{eqb}
 use lib.Bits.{bitXor}
 use lib.ListN.{take, drop, replicate, getD}
 
+-- one of two answers, by a test
+abbrev pub pick : {A : Type 0} → Bool → A → A → A
+pick true x y = x
+pick false x y = y
+
 -- the n elements from place `at` on
 abbrev pub part : {A : Type 0} → ℕ → ℕ → List A → List A
 part at n l = take n (drop at l)
