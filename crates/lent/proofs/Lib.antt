@@ -1,3 +1,4 @@
 pub mod Parts
+pub mod Picks
 pub mod Tabs
 pub mod Words

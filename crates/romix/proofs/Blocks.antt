@@ -1,7 +1,6 @@
 -- Blocks of the scratch by their number: a block lies within it, two blocks lie apart, and what reading after writing gives.
 -- Here alone byte places are products; above, a block is a number. Assumes nothing.
 use mathlib.Core.Path.{_≡_, refl, sym, ap, _∙_}
-use mathlib.Core.Bool.{Bool, true, false}
 use lib.Dec.{eqb}
 use mathlib.Core.Logic.{_≢_}
 use mathlib.Core.List.{List}
@@ -10,8 +9,9 @@ use native.Mathlib.Nat.{mul-le-mul-left, mul-le-mul-right, div-lt-iff-lt-mul}
 use native.Mathlib.Decide.{decLe}
 use native.Mathlib.Omega.{arith}
 use lib.ListN.{length}
-use Rattle.lent.specs.Bytes.{part, Apart, pick}
+use Rattle.lent.specs.Bytes.{part, Apart}
 use Rattle.lent.proofs.Parts.{length-part, part-sets-same, part-sets-apart, sets-over, sets-apart}
+use Rattle.lent.proofs.Picks.{pick-any}
 use Rattle.romix.specs.declared.State.{State}
 use Rattle.romix.specs.Machine.{Room, Fit, block, blocks, get, put, atStep, atWork, atStored, source}
 
@@ -60,8 +60,7 @@ stored-in n w k i pos held h = div-lt-iff-lt-mul pos .1 (omega arith)
 
 -- the block from which V[j] is reached lies within the scratch, and is not the working block
 pub source-in : {long : ℕ} (t : State) (j : ℕ) → Fit t long → j < t .n → (source t j < blocks t) × (source t j ≢ atWork t)
-source-in t j fit h = go (eqb (t .ahead) 0)
-  where
-    go : (b : Bool) → (pick b (atStored t (j / t .k)) (atStep t) < blocks t) × (pick b (atStored t (j / t .k)) (atStep t) ≢ atWork t)
-    go true = let low = stored-in (t .n) (t .w) (t .k) j (fit .space) (fit .held) h in (omega arith, omega arith)
-    go false = (omega arith, omega arith)
+source-in t j fit h =
+    pick-any (λ (i : ℕ). (i < blocks t) × (i ≢ atWork t)) (eqb (t .ahead) 0) _ _
+    (λ _. let low = stored-in (t .n) (t .w) (t .k) j (fit .space) (fit .held) h in (omega arith, omega arith))
+    (λ _. (omega arith, omega arith))

@@ -1,7 +1,6 @@
 -- The working block has no part in the machine: each write passes through the wiping of it, and no block that is read is it.
 -- Assumes nothing.
 use mathlib.Core.Path.{_≡_, refl, sym, ap, ap₂, _∙_}
-use mathlib.Core.Bool.{Bool, true, false}
 use mathlib.Core.Logic.{_≢_}
 use mathlib.Core.List.{List}
 use Prim.Native.Nat.{ℕ, _+_, _*_, _/_, _%_, _≤_, _<_}
@@ -13,6 +12,7 @@ use lib.Seq.{sets, length-sets}
 use borrow.Author.Tests.{ltb-true}
 use Rattle.lent.specs.Bytes.{zeros, pick, xors}
 use Rattle.lent.proofs.Parts.{sets-comm}
+use Rattle.lent.proofs.Picks.{pick-ap, pick-same}
 use Rattle.lent.proofs.Tabs.{length-xors}
 use Rattle.mixing.specs.BlockMix.{blockMix}
 use Rattle.mixing.proofs.Laws.{length-blockMix}
@@ -22,10 +22,6 @@ use Rattle.romix.proofs.Blocks.{get-put-same, get-put-other, put-over, 
 
 pub length-zeros : (n : ℕ) → length (zeros n) ≡ n
 length-zeros n = length-replicate n 0
-
-pub pick-ap : {A B : Type 0} (f : A → B) (t : Bool) (x y : A) → f (pick t x y) ≡ pick t (f x) (f y)
-pick-ap f true x y = refl
-pick-ap f false x y = refl
 
 pub clean-put : (t : State) (i : ℕ) (v s : List ℕ) → length v ≡ block t → i ≢ atWork t → clean t (put t i v s) ≡ put t i v (clean t s)
 unfolding clean
@@ -87,15 +83,12 @@ clean-wiped t s =
 
 pub clean-followed : (t : State) (s : List ℕ) (lane : ℕ) → Room t (length s) → clean t (followed t lane s) ≡ followed t lane (clean t s)
 unfolding followed
-clean-followed t s lane fits = go (ltb lane (t .p)) refl
-  where
-    go : (b : Bool) → ltb lane (t .p) ≡ b
-        → clean t (pick b (loaded t lane (sets s (atStored t 0 * block t) (zeros (t .w * block t)))) s)
-        ≡ pick b (loaded t lane (sets (clean t s) (atStored t 0 * block t) (zeros (t .w * block t)))) (clean t s)
-    go true e =
-        clean-loaded t (sets s (atStored t 0 * block t) (zeros (t .w * block t))) (rw length-sets fits) lane (ltb-true lane (t .p) e)
-        ∙ ap (loaded t lane) (clean-wiped t s)
-    go false e = refl
+clean-followed t s lane fits =
+    let s′ = sets s (atStored t 0 * block t) (zeros (t .w * block t)) in
+    let wiped = sets (clean t s) (atStored t 0 * block t) (zeros (t .w * block t)) in
+    pick-same (clean t) (ltb lane (t .p)) (loaded t lane s′) s (loaded t lane wiped) (clean t s)
+    (λ e. clean-loaded t s′ (rw length-sets fits) lane (ltb-true lane (t .p) e) ∙ ap (loaded t lane) (clean-wiped t s))
+    (λ _. refl)
 
 -- ---- what the code makes by way of the working block, said of the scratch with that block wiped
 

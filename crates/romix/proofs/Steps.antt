@@ -1,7 +1,6 @@
 -- One step, case by case; what it keeps of the state; and that the scratch with its working block wiped is all it goes by.
 -- Assumes nothing.
 use mathlib.Core.Path.{_≡_, refl, sym, ap, ap₂, _∙_, subst}
-use mathlib.Core.Bool.{Bool, true, false}
 use mathlib.Core.List.{List}
 use Prim.Native.Nat.{ℕ, zero, suc, _+_, _-_, _*_, _%_, _≤_, _<_}
 use native.Mathlib.Nat.{zero-mul}
@@ -9,8 +8,8 @@ use native.Mathlib.Omega.{arith}
 use lib.Dec.{eqb, ltb}
 use lib.ListN.{length}
 use lib.Seq.{length-sets}
-use borrow.Author.Tests.{lt-ltb, le-ltb, ltb-true, ltb-false}
-use Rattle.lent.specs.Bytes.{pick}
+use borrow.Author.Tests.{lt-ltb, le-ltb, ltb-true}
+use Rattle.lent.proofs.Picks.{pick-any}
 use Rattle.romix.specs.declared.State.{State}
 use Rattle.romix.specs.ROMix.{place}
 use Rattle.romix.specs.Machine.{Room, Fit, get, put, atX, clean, moved, more, first, forward, second, followed, finished, next, after}
@@ -44,22 +43,14 @@ module _ (t : State) (s : List ℕ) where
   -- the costs stay, and the position stays one of a lane: what holds of every such state holds of the next one
   pub next-any : (P : State → Type 0) → t .pos < 2 * t .n → ((lane pos ahead made : ℕ) → pos < 2 * t .n → P (moved t lane pos ahead made)) → P (next t s .0)
   unfolding next first forward second finished
-  next-any P h all = one (ltb (t .pos) (t .n)) refl
-    where
-      j : ℕ
-      j = place (t .n) (get t (atX t) s)
-
-      three : (b : Bool) → ltb (t .pos + 1) (2 * t .n) ≡ b → P (pick b (second t j s) (finished t (more t) (second t j s .1)) .0)
-      three true e = all _ _ _ _ (ltb-true _ _ e)
-      three false e = all _ _ _ _ (omega arith)
-
-      two : (b : Bool) → P (pick b (forward t j s) (pick (ltb (t .pos + 1) (2 * t .n)) (second t j s) (finished t (more t) (second t j s .1))) .0)
-      two true = all _ _ _ _ h
-      two false = three (ltb (t .pos + 1) (2 * t .n)) refl
-
-      one : (b : Bool) → ltb (t .pos) (t .n) ≡ b → P (pick b (first t s) (pick (ltb (t .ahead) (j % t .k)) (forward t j s) (pick (ltb (t .pos + 1) (2 * t .n)) (second t j s) (finished t (more t) (second t j s .1)))) .0)
-      one true e = let less = ltb-true (t .pos) (t .n) e in all _ _ _ _ (omega arith)
-      one false e = two (ltb (t .ahead) (j % t .k))
+  next-any P h all =
+      pick-any (λ (c : State × List ℕ). P (c .0)) (ltb (t .pos) (t .n)) _ _
+      (λ e. let less = ltb-true (t .pos) (t .n) e in all _ _ _ _ (omega arith))
+      (λ _. pick-any (λ (c : State × List ℕ). P (c .0)) (ltb (t .ahead) (place (t .n) (get t (atX t) s) % t .k)) _ _
+      (λ _. all _ _ _ _ h)
+      (λ _. pick-any (λ (c : State × List ℕ). P (c .0)) (ltb (t .pos + 1) (2 * t .n)) _ _
+      (λ e. all _ _ _ _ (ltb-true _ _ e))
+      (λ _. all _ _ _ _ (omega arith))))
 
   pub clean-finished : (made : ℕ) → Room t (length s) → t .lane < t .p → (finished t made s .0, clean t (finished t made s .1)) ≡ finished t made (clean t s)
   unfolding finished
