@@ -4,6 +4,7 @@ use mathlib.Core.Path.{_≡_, refl, sym, ap, ap₂, _∙_, subst}
 use mathlib.Core.Bool.{Bool, true, false, _&&_}
 use mathlib.Core.List.{List, [], _∷_, _++_}
 use Prim.Native.Nat.{ℕ, zero, suc, _+_, _*_, _≤_, _<_}
+use native.Mathlib.Nat.{zero-mul, suc-mul, zero-add}
 use native.Mathlib.Numerals.{add-one}
 use native.Mathlib.Omega.{arith}
 use lib.Dec.{eqb}
@@ -11,8 +12,8 @@ use lib.Bits.{bitXor, bitOr, or-add-and, xor-add-and, xor-self, and-le-l, and-le
 use lib.ListN.{length, getD, set, take, drop, length-set, length-append}
 use lib.Seq.{take-suc, sets, getD-drop, ext-getD}
 use borrow.Author.Tests.{eqb-true, eq-eqb, ne-eqb}
-use Rattle.lent.specs.Bytes.{part, zeros, tab, xors, eqs}
-use Rattle.lent.proofs.Parts.{sets-snoc, length-part, getD-part}
+use Rattle.lent.specs.Bytes.{part, zeros, tab, joined, xors, eqs}
+use Rattle.lent.proofs.Parts.{sets-snoc, length-part, getD-part, part-add}
 
 -- ---- what a filling loop has made
 
@@ -43,6 +44,22 @@ module _ {A : Type 0} where
   unfolding tab
   tab-front zero f = refl
   tab-front (suc n) f = ap (λ (l : List A). l ++ (f (suc n) ∷ [])) (tab-front n f)
+
+  -- ---- pieces laid one after the other
+
+  pub joined-ext : (n : ℕ) (f g : ℕ → List A) → ((i : ℕ) → i < n → f i ≡ g i) → joined n f ≡ joined n g
+  unfolding joined
+  joined-ext zero f g h = refl
+  joined-ext (suc n) f g h = rw (joined-ext n f g (λ i k. h i (omega arith)), h n (omega arith))
+
+  -- the front of a list, cut into pieces of b
+  pub part-joined : (n b : ℕ) (l : List A) → part 0 (n * b) l ≡ joined n (λ i. part (i * b) b l)
+  unfolding joined
+  part-joined zero b l = ap (λ (k : ℕ). part 0 k l) (zero-mul b)
+  part-joined (suc n) b l =
+      ap (λ (k : ℕ). part 0 k l) (suc-mul n b)
+      ∙ part-add 0 (n * b) b l
+      ∙ ap₂ _++_ (part-joined n b l) (ap (λ (k : ℕ). part k b l) (zero-add (n * b)))
 
 -- The invariant of a loop that stores f 0, f 1, .. f (n - 1) from place `at` on, after i turns; before the first; after one more; after the last.
 pub record Filled (l₀ : List ℕ) (at n : ℕ) (f : ℕ → ℕ) (l : List ℕ) (i : ℕ) : Type 0 where

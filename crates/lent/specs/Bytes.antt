@@ -33,6 +33,11 @@ unfoldable pub tab : {A : Type 0} → ℕ → (ℕ → A) → List A
 tab zero f = []
 tab (suc n) f = tab n f ++ (f n ∷ [])
 
+-- f 0, f 1, .. f (n - 1), one after the other
+unfoldable pub joined : {A : Type 0} → ℕ → (ℕ → List A) → List A
+joined zero f = []
+joined (suc n) f = joined n f ++ f n
+
 -- exclusive or of two byte strings, byte by byte, as far as the shorter goes
 unfoldable pub xors : List ℕ → List ℕ → List ℕ
 xors [] ys = []

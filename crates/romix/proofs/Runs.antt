@@ -4,13 +4,13 @@
 use mathlib.Core.Path.{_≡_, sym}
 use mathlib.Core.Logic.{⊎-elim}
 use mathlib.Core.List.{List}
-use Prim.Native.Nat.{ℕ, zero, suc, _+_, _^_, _≤_, _<_}
+use Prim.Native.Nat.{ℕ, zero, suc, _+_, _*_, _^_, _≤_, _<_}
 use native.Mathlib.Omega.{arith}
 use lib.ListN.{length}
 use Rattle.romix.specs.declared.State.{State}
 use Rattle.romix.specs.ROMix.{roMix}
 use Rattle.romix.specs.Machine.{Fit, block, get, loaded, clean, moved, next, after}
-use Rattle.romix.proofs.Sums.{sum-zero}
+use Rattle.romix.proofs.Sums.{sum-zero, sum-most, mixings-most}
 use Rattle.romix.proofs.Blocks.{length-get}
 use Rattle.romix.proofs.Clean.{get-clean, length-clean, clean-loaded}
 use Rattle.romix.proofs.Steps.{after-more, after-done, next-any}
@@ -55,3 +55,7 @@ runs-all t s m fit some small enough =
   where
     of-same : {B : ℕ → List ℕ} {c : State × List ℕ} → Ended B (moved t 0 0 0 0) c → Ended B t c
     of-same e = record { lanes = e .lanes; made = e .made }
+
+-- never above p·N·(k + 1)
+pub total-most : (B : ℕ → List ℕ) (t : State) → 0 < t .k → total B t ≤ t .p * (t .n * (t .k + 1))
+total-most B t space = sum-most (t .p) (t .n * (t .k + 1)) _ (λ l h. mixings-most (t .k) (t .r) (t .n) (B l) space)

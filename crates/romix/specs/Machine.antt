@@ -62,6 +62,10 @@ pub record Fit (t : State) (long : ℕ) : Type 0 where
   pub held : t .n ≤ t .w * t .k
   pub turned : t .pos < 2 * t .n
 
+-- the state before the first mixing
+abbrev pub opening : ℕ → ℕ → ℕ → ℕ → ℕ → State
+opening n r p k w = record { n = n; r = r; p = p; k = k; w = w; lane = 0; pos = 0; ahead = 0; made = 0 }
+
 -- ---- one step
 
 -- the same costs and places, elsewhere

@@ -10,9 +10,9 @@ ghost use mathlib.Core.Logic.{_≢_};
 ghost use Prim.Native.Nat.{_+_, _*_, _/_, _%_, _^_, _≤_, _<_};
 ghost use lib.ListN.{length};
 ghost use lib.Seq.{sets};
-ghost use Rattle.lent.specs.Bytes.{zeros, xors};
-ghost use Rattle.romix.specs.ROMix.{place};
-ghost use Rattle.romix.specs.Machine.{Room, Fit, block, blocks, get, put, atX, atStored, clean, moved, more, mixed, kept, first, source, forward, settled, second, loaded, followed, finished, next, after};
+ghost use Rattle.lent.specs.Bytes.{part, zeros, xors, joined};
+ghost use Rattle.romix.specs.ROMix.{place, roMix, sum, mixings};
+ghost use Rattle.romix.specs.Machine.{opening, Room, Fit, block, blocks, get, put, atX, atStored, clean, moved, more, mixed, kept, first, source, forward, settled, second, loaded, followed, finished, next, after};
 
 pub struct State {
     // N, r and p
@@ -250,4 +250,36 @@ pub fn run(t: State, s: &mut [u8], allowance: u64) -> State
         left -= 1;
     }
     u
+}
+
+// ROMix in each of the p lanes at the front of the scratch, with one block in k stored, w of them.
+// The answer is the number of mixings made. Behind the lanes the scratch is left as the machine left
+// it: whoever lends it wipes it.
+pub fn mix_lanes(
+    n: usize,
+    r: usize,
+    p: usize,
+    k: usize,
+    w: usize,
+    s: &mut [u8],
+    allowance: u64,
+) -> u64
+    requires { ⌜ Fit (opening n r p k w) (length (now s)) × (0 < p) × (p * (n * (k + 1)) ≤ allowance) ⌝ }
+    ensures { λ made. ⌜ (made ≡ sum p (λ l. mixings k r n (part (l * (128 * r)) (128 * r) (now (s .entry)))))
+        × (part 0 (p * (128 * r)) (now (s .exit)) ≡ joined p (λ l. roMix r n (part (l * (128 * r)) (128 * r) (now (s .entry))))) ⌝ }
+{
+    let t = State {
+        n,
+        r,
+        p,
+        k,
+        w,
+        lane: 0,
+        pos: 0,
+        ahead: 0,
+        made: 0,
+    };
+    load(t, s, 0);
+    let end = run(t, s, allowance);
+    end.made
 }
