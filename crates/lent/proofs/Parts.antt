@@ -145,3 +145,13 @@ module _ {A : Type 0} where
   pub getD-sets-apart : (l : List A) (n from to : ℕ) (vs : List A) (i : ℕ) (d : A) → Apart n from to → i < n → length vs ≤ i → getD (sets l to vs) (from + i) d ≡ getD l (from + i) d
   getD-sets-apart l n from to vs i d apart h k =
       elim (decLe to from) [ yes below ↦ getD-sets-after l to vs (from + i) d (omega arith) | no above ↦ getD-sets-before l to vs (from + i) d (omega arith) ]
+
+  -- places of n elements apart, in either order: a read inside the one and a write inside the other, and two writes
+  pub part-sets-apart : (n from to : ℕ) (l : List A) (a m b : ℕ) (vs : List A) → Apart n from to
+      → (from ≤ a) × (a + m ≤ from + n) → (to ≤ b) × (b + length vs ≤ to + n) → part a m (sets l b vs) ≡ part a m l
+  part-sets-apart n from to l a m b vs apart reads writes =
+      elim (decLe to from) [ yes below ↦ part-sets-after a m l b vs (omega arith) | no above ↦ part-sets-before a m l b vs (omega arith) ]
+
+  pub sets-apart : (n : ℕ) (l : List A) (i : ℕ) (a : List A) (j : ℕ) (b : List A) → length a ≡ n → length b ≡ n → Apart n i j → sets (sets l i a) j b ≡ sets (sets l j b) i a
+  sets-apart n l i a j b e f apart =
+      elim (decLe j i) [ yes below ↦ sym (sets-comm l j b i a (omega arith)) | no above ↦ sets-comm l i a j b (omega arith) ]

@@ -4,6 +4,7 @@ use mathlib.Core.Path.{_≡_, refl, sym, ap, ap₂, _∙_, subst}
 use mathlib.Core.Bool.{Bool, true, false, _&&_}
 use mathlib.Core.List.{List, [], _∷_, _++_}
 use Prim.Native.Nat.{ℕ, zero, suc, _+_, _*_, _≤_, _<_}
+use native.Mathlib.Nat.{zero-mul, suc-mul, zero-add}
 use native.Mathlib.Numerals.{add-one}
 use native.Mathlib.Omega.{arith}
 use lib.Dec.{eqb}
@@ -11,8 +12,8 @@ use lib.Bits.{bitXor, bitOr, or-add-and, xor-add-and, xor-self, and-le-l, and-le
 use lib.ListN.{length, getD, set, take, drop, length-set, length-append}
 use lib.Seq.{take-suc, sets, getD-drop, ext-getD}
 use borrow.Author.Tests.{eqb-true, eq-eqb, ne-eqb}
-use Rattle.lent.specs.Bytes.{part, zeros, tab, xors, eqs}
-use Rattle.lent.proofs.Parts.{sets-snoc}
+use Rattle.lent.specs.Bytes.{part, zeros, tab, joined, xors, eqs}
+use Rattle.lent.proofs.Parts.{sets-snoc, length-part, getD-part, part-add}
 
 -- ---- what a filling loop has made
 
@@ -43,6 +44,27 @@ module _ {A : Type 0} where
   unfolding tab
   tab-front zero f = refl
   tab-front (suc n) f = ap (λ (l : List A). l ++ (f (suc n) ∷ [])) (tab-front n f)
+
+  -- ---- pieces laid one after the other
+
+  pub joined-ext : (n : ℕ) (f g : ℕ → List A) → ((i : ℕ) → i < n → f i ≡ g i) → joined n f ≡ joined n g
+  unfolding joined
+  joined-ext zero f g h = refl
+  joined-ext (suc n) f g h = rw (joined-ext n f g (λ i k. h i (omega arith)), h n (omega arith))
+
+  pub length-joined : (n b : ℕ) (f : ℕ → List A) → ((i : ℕ) → i < n → length (f i) ≡ b) → length (joined n f) ≡ n * b
+  unfolding joined
+  length-joined zero b f h = sym (zero-mul b)
+  length-joined (suc n) b f h = rw (length-append, length-joined n b f (λ i k. h i (omega arith)), h n (omega arith), suc-mul)
+
+  -- the front of a list, cut into pieces of b
+  pub part-joined : (n b : ℕ) (l : List A) → part 0 (n * b) l ≡ joined n (λ i. part (i * b) b l)
+  unfolding joined
+  part-joined zero b l = ap (λ (k : ℕ). part 0 k l) (zero-mul b)
+  part-joined (suc n) b l =
+      ap (λ (k : ℕ). part 0 k l) (suc-mul n b)
+      ∙ part-add 0 (n * b) b l
+      ∙ ap₂ _++_ (part-joined n b l) (ap (λ (k : ℕ). part k b l) (zero-add (n * b)))
 
 -- The invariant of a loop that stores f 0, f 1, .. f (n - 1) from place `at` on, after i turns; before the first; after one more; after the last.
 pub record Filled (l₀ : List ℕ) (at n : ℕ) (f : ℕ → ℕ) (l : List ℕ) (i : ℕ) : Type 0 where
@@ -85,6 +107,17 @@ tab-xors [] ys h = refl
 tab-xors (x ∷ xs) [] h = absurd (omega arith)
 tab-xors (x ∷ xs) (y ∷ ys) h =
     tab-front (length xs) (λ i. bitXor (getD (x ∷ xs) i 0) (getD (y ∷ ys) i 0)) ∙ ap (λ (l : List ℕ). bitXor x y ∷ l) (tab-xors xs ys (omega arith))
+
+-- the exclusive or of two parts of one list
+pub tab-xor-parts : (l : List ℕ) (a b n : ℕ) → a + n ≤ length l → b + n ≤ length l → tab n (λ j. bitXor (getD l (a + j) 0) (getD l (b + j) 0)) ≡ xors (part a n l) (part b n l)
+tab-xor-parts l a b n ha hb =
+    let xs = part a n l in
+    let ys = part b n l in
+    let long : length xs ≡ n = length-part a n l ha in
+    let as-long : length ys ≡ n = length-part b n l hb in
+    tab-ext n _ _ (λ i h. ap₂ bitXor (sym (getD-part a n l i 0 h)) (sym (getD-part b n l i 0 h)))
+    ∙ ap (λ (k : ℕ). tab k (λ i. bitXor (getD xs i 0) (getD ys i 0))) (sym long)
+    ∙ tab-xors xs ys (long ∙ sym as-long)
 
 pub eqs-refl : (xs : List ℕ) → eqs xs xs ≡ true
 unfolding eqs

@@ -54,3 +54,9 @@ unfolding tab
 part-four l at h =
     let room : 4 ≤ length (drop at l) = simp length-drop (omega arith) in
     sym (tab-part at 4 l 0 room) ∙ ap (λ (k : ℕ). getD l k 0 ∷ getD l (at + 1) 0 ∷ getD l (at + 2) 0 ∷ getD l (at + 3) 0 ∷ []) (add-zero at)
+
+-- bytes in two pieces: the second counts from where the first ends
+pub ofLe-append : (a b : List ℕ) → ofLe (a ++ b) ≡ ofLe a + 256 ^ length a * ofLe b
+unfolding ofLe
+ofLe-append [] b = omega arith
+ofLe-append (x ∷ a) b = rw (ofLe-append a b, pow-suc 256 (length a)) (omega arith)

@@ -7,6 +7,11 @@ use lib.Dec.{eqb}
 use lib.Bits.{bitXor}
 use lib.ListN.{take, drop, replicate, getD}
 
+-- one of two answers, by a test
+abbrev pub pick : {A : Type 0} → Bool → A → A → A
+pick true x y = x
+pick false x y = y
+
 -- the n elements from place `at` on
 abbrev pub part : {A : Type 0} → ℕ → ℕ → List A → List A
 part at n l = take n (drop at l)
@@ -27,6 +32,11 @@ Bytes l = (i : ℕ) → getD l i 0 < 256
 unfoldable pub tab : {A : Type 0} → ℕ → (ℕ → A) → List A
 tab zero f = []
 tab (suc n) f = tab n f ++ (f n ∷ [])
+
+-- f 0, f 1, .. f (n - 1), one after the other
+unfoldable pub joined : {A : Type 0} → ℕ → (ℕ → List A) → List A
+joined zero f = []
+joined (suc n) f = joined n f ++ f n
 
 -- exclusive or of two byte strings, byte by byte, as far as the shorter goes
 unfoldable pub xors : List ℕ → List ℕ → List ℕ

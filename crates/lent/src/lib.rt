@@ -33,14 +33,14 @@ pub fn copy_within(s: &mut [u8], from: usize, to: usize, n: usize)
     }
 }
 
-// The n bytes at place to become their exclusive or with those at place from, which lie apart.
-pub fn xor_within(s: &mut [u8], from: usize, to: usize, n: usize)
-    requires { ⌜ (from + n ≤ length (now s)) × (to + n ≤ length (now s)) × Apart n from to ⌝ }
-    ensures { λ _. ⌜ now (s .exit) ≡ sets (now (s .entry)) to (xors (part to n (now (s .entry))) (part from n (now (s .entry)))) ⌝ }
+// The n bytes at place to become the exclusive or of those at places a and b, which lie apart from it.
+pub fn xor_to(s: &mut [u8], a: usize, b: usize, to: usize, n: usize)
+    requires { ⌜ (a + n ≤ length (now s)) × (b + n ≤ length (now s)) × (to + n ≤ length (now s)) × Apart n a to × Apart n b to ⌝ }
+    ensures { λ _. ⌜ now (s .exit) ≡ sets (now (s .entry)) to (xors (part a n (now (s .entry))) (part b n (now (s .entry)))) ⌝ }
 {
     let mut i = 0;
     while i < n {
-        s[to + i] = s[to + i] ^ s[from + i];
+        s[to + i] = s[a + i] ^ s[b + i];
         i += 1;
     }
 }

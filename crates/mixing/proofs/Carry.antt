@@ -9,7 +9,7 @@ use lib.ListN.{length, getD, take}
 use lib.Seq.{length-take-le}
 use Rattle.lent.specs.Bytes.{part, Apart, tab, xors}
 use Rattle.lent.specs.Word.{ofLe}
-use Rattle.lent.proofs.Places.{part-sets-apart}
+use Rattle.lent.proofs.Parts.{part-sets-apart}
 use Rattle.lent.proofs.Arrays.{xors-tab}
 use Rattle.salsa.specs.Salsa.{words, bytes}
 use Rattle.salsa.proofs.Coding.{words-part, length-bytes, Stored}

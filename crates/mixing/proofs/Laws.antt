@@ -1,19 +1,19 @@
 -- What callers of BlockMix cite: its length, and that it makes bytes, whatever it is given.
 -- Assumes nothing.
-use mathlib.Core.Path.{_≡_, refl}
+use mathlib.Core.Path.{_≡_, _∙_}
 use mathlib.Core.List.{List}
 use Prim.Native.Nat.{ℕ, zero, suc, _+_, _*_}
+use native.Mathlib.Nat.{mul-comm}
 use native.Mathlib.Omega.{arith}
 use lib.ListN.{length, length-append}
-use Rattle.lent.specs.Bytes.{Bytes}
+use Rattle.lent.specs.Bytes.{Bytes, joined}
+use Rattle.lent.proofs.Tabs.{length-joined}
 use Rattle.lent.proofs.Bounds.{below-nil, below-append}
 use Rattle.salsa.proofs.Laws.{length-salsaBytes, salsaBytes-bytes}
-use Rattle.mixing.specs.BlockMix.{X, Y, joined, blockMix}
+use Rattle.mixing.specs.BlockMix.{X, Y, blockMix}
 
-pub length-joined : (n : ℕ) (f : ℕ → List ℕ) → ((i : ℕ) → length (f i) ≡ 64) → length (joined n f) ≡ 64 * n
-unfolding joined
-length-joined zero f h = refl
-length-joined (suc n) f h = rw (length-append, length-joined n f h, h n) (omega arith)
+pub length-pieces : (n : ℕ) (f : ℕ → List ℕ) → ((i : ℕ) → length (f i) ≡ 64) → length (joined n f) ≡ 64 * n
+length-pieces n f h = length-joined n 64 f (λ i _. h i) ∙ mul-comm n 64
 
 joined-bytes : (n : ℕ) (f : ℕ → List ℕ) → ((i : ℕ) → Bytes (f i)) → Bytes (joined n f)
 unfolding joined
@@ -31,8 +31,8 @@ Y-bytes r B i = salsaBytes-bytes _ _
 pub length-blockMix : (r : ℕ) (B : List ℕ) → length (blockMix r B) ≡ 128 * r
 unfolding blockMix
 length-blockMix r B =
-    let evens = length-joined r (λ i. Y r B (2 * i)) (λ i. length-Y r B (2 * i)) in
-    let odds = length-joined r (λ i. Y r B (2 * i + 1)) (λ i. length-Y r B (2 * i + 1)) in
+    let evens = length-pieces r (λ i. Y r B (2 * i)) (λ i. length-Y r B (2 * i)) in
+    let odds = length-pieces r (λ i. Y r B (2 * i + 1)) (λ i. length-Y r B (2 * i + 1)) in
     rw length-append (omega arith)
 
 pub blockMix-bytes : (r : ℕ) (B : List ℕ) → Bytes (blockMix r B)

@@ -9,15 +9,15 @@ use native.Mathlib.Decide.{decLt}
 use native.Mathlib.Omega.{arith}
 use lib.ListN.{length}
 use lib.Seq.{sets, length-sets}
-use Rattle.lent.specs.Bytes.{part, Apart, xors, Bytes}
+use Rattle.lent.specs.Bytes.{part, Apart, xors, Bytes, joined}
 use Rattle.lent.proofs.Parts.{part-part, length-part, sets-append, sets-comm}
-use Rattle.lent.proofs.Places.{part-sets-apart}
+use Rattle.lent.proofs.Parts.{part-sets-apart}
 use Rattle.lent.proofs.Bounds.{below-part}
 use Rattle.salsa.specs.Salsa.{salsa, salsaBytes, words, bytes}
 use Rattle.salsa.proofs.Coding.{words-xors}
 use Rattle.salsa.proofs.Laws.{words-salsaBytes}
-use Rattle.mixing.specs.BlockMix.{piece, X, Y, joined, blockMix}
-use Rattle.mixing.proofs.Laws.{length-joined, length-Y, Y-bytes}
+use Rattle.mixing.specs.BlockMix.{piece, X, Y, blockMix}
+use Rattle.mixing.proofs.Laws.{length-pieces, length-Y, Y-bytes}
 
 -- where the result of turn i lies in the block, in pieces
 abbrev pub place : ℕ → ℕ → ℕ
@@ -40,10 +40,10 @@ module _ (r : ℕ) (s : List ℕ) (to : ℕ) (f : ℕ → List ℕ) where
 
   module _ (long : (i : ℕ) → length (f i) ≡ 64) where
     evens : (a : ℕ) → length (joined a (λ k. f (2 * k))) ≡ 64 * a
-    evens a = length-joined a (λ k. f (2 * k)) (λ k. long (2 * k))
+    evens a = length-pieces a (λ k. f (2 * k)) (λ k. long (2 * k))
 
     odds : (b : ℕ) → length (joined b (λ k. f (2 * k + 1))) ≡ 64 * b
-    odds b = length-joined b (λ k. f (2 * k + 1)) (λ k. long (2 * k + 1))
+    odds b = length-pieces b (λ k. f (2 * k + 1)) (λ k. long (2 * k + 1))
 
     even-more : (a b : ℕ) → a < r → sets (halves a b) (to + 64 * a) (f (2 * a)) ≡ halves (suc a) b
     unfolding halves joined

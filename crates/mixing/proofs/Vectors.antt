@@ -3,10 +3,10 @@
 use mathlib.Core.Path.{_≡_, refl}
 use mathlib.Core.List.{List, [], _∷_}
 use Prim.Native.Nat.{ℕ}
-use Rattle.lent.specs.Bytes.{tab, xors}
+use Rattle.lent.specs.Bytes.{tab, xors, joined}
 use Rattle.lent.specs.Word.{le, ofLe}
 use Rattle.salsa.specs.Salsa.{step, quarter, columns, rows, doubles, added, salsa, words, bytes, salsaBytes}
-use Rattle.mixing.specs.BlockMix.{piece, X, Y, joined, blockMix}
+use Rattle.mixing.specs.BlockMix.{piece, X, Y, blockMix}
 
 -- RFC 7914 section 9, r = 1
 abbrev pub input : List ℕ

@@ -1,7 +1,7 @@
 -- scryptBlockMix: RFC 7914 section 4, in its letters. B is 2 * r pieces of 64 bytes, B[0] .. B[2 * r - 1].
 use mathlib.Core.List.{List, [], _++_}
 use Prim.Native.Nat.{ℕ, zero, suc, _+_, _-_, _*_}
-use Rattle.lent.specs.Bytes.{part, xors}
+use Rattle.lent.specs.Bytes.{part, xors, joined}
 use Rattle.salsa.specs.Salsa.{salsaBytes}
 
 -- B[i]
@@ -16,11 +16,6 @@ X r B (suc i) = salsaBytes 8 (xors (X r B i) (piece i B))
 -- Step 2: Y[i] = X, after the turn
 unfoldable pub Y : ℕ → List ℕ → ℕ → List ℕ
 Y r B i = X r B (suc i)
-
--- f 0, f 1, .. f (n - 1), joined
-unfoldable pub joined : ℕ → (ℕ → List ℕ) → List ℕ
-joined zero f = []
-joined (suc n) f = joined n f ++ f n
 
 -- Step 3: B' = (Y[0], Y[2], .. Y[2 * r - 2], Y[1], Y[3], .. Y[2 * r - 1])
 unfoldable pub blockMix : ℕ → List ℕ → List ℕ
