@@ -1,2 +1,3 @@
 pub mod Powers
 pub mod Spacings
+pub mod Goods
