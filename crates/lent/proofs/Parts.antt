@@ -7,8 +7,8 @@ use Prim.Native.Nat.{ℕ, zero, suc, _+_, _-_, _≤_, _<_}
 use native.Mathlib.Nat.{add-suc, suc-add, add-zero, add-sub-of-le}
 use native.Mathlib.Decide.{decLe}
 use native.Mathlib.Omega.{arith}
-use lib.ListN.{length, getD, set, take, drop, length-set, length-take, length-drop, length-append, take-append-drop, drop-of-length-le}
-use lib.Seq.{sets, sets-eq, length-sets, set-comm, set-set, take-set-le, drop-set-lt, drop-set-add, take-at, drop-at, take-append-seam, take-take, drop-drop, take-add, take-all, drop-append-le, take-append-le, length-take-le, getD-take, getD-drop, getD-set-other}
+use lib.ListN.{length, getD, set, take, drop, length-set, length-take, length-drop, length-append, take-append-drop, drop-of-length-le, replicate, length-replicate, replicate-append-replicate}
+use lib.Seq.{sets, sets-eq, length-sets, set-comm, set-set, take-set-le, drop-set-lt, drop-set-add, take-at, drop-at, take-append-seam, take-take, drop-drop, take-add, take-all, drop-append-le, drop-append-add, take-append-le, length-take-le, getD-take, getD-drop, getD-set-other}
 use Rattle.lent.specs.Bytes.{part, Apart}
 
 module _ {A : Type 0} where
@@ -36,6 +36,21 @@ module _ {A : Type 0} where
   -- a part in two pieces
   pub part-add : (at n m : ℕ) (l : List A) → part at (n + m) l ≡ part at n l ++ part (at + n) m l
   part-add at n m l = take-add n m (drop at l) ∙ ap (λ (t : List A). part at n l ++ take m t) (drop-drop n at l)
+
+  -- a part of the first of two lists, and one of the second
+  pub part-front : (at n : ℕ) (xs ys : List A) → at + n ≤ length xs → part at n (xs ++ ys) ≡ part at n xs
+  part-front at n xs ys h =
+      let room : n ≤ length (drop at xs) = simp length-drop (omega arith) in
+      rw (drop-append-le at xs ys (omega arith), take-append-le n (drop at xs) ys room)
+
+  pub part-back : (at n : ℕ) (xs ys : List A) → part (length xs + at) n (xs ++ ys) ≡ part at n ys
+  part-back at n xs ys = ap (take n) (drop-append-add xs ys at)
+
+  -- a part of copies of one element
+  pub part-replicate : (at n m : ℕ) (a : A) → at + n ≤ m → part at n (replicate m a) ≡ replicate n a
+  part-replicate at n m a h =
+      let e : at + (n + (m - at - n)) ≡ m = omega arith in
+      rw (← e, ← replicate-append-replicate at (n + (m - at - n)) a, ← replicate-append-replicate n (m - at - n) a, drop-at (replicate at a) (replicate n a ++ replicate (m - at - n) a) at (length-replicate at a), take-at (replicate n a) (replicate (m - at - n) a) n (length-replicate n a))
 
   -- ---- writing
 
