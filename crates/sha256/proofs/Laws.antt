@@ -4,14 +4,14 @@ use mathlib.Core.Path.{_≡_, refl, sym, ap, _∙_}
 use mathlib.Core.List.{List, [], _∷_, _++_, append-assoc, append-nil}
 use Prim.Native.Nat.{ℕ, zero, suc, _+_, _-_, _*_, _/_, _%_, _≤_, _<_}
 use native.Mathlib.Numerals.{add-one}
-use native.Mathlib.Nat.{add-zero, zero-add, add-suc}
+use native.Mathlib.Nat.{add-zero, add-suc}
 use native.Mathlib.Omega.{arith}
 use borrow.Author.Tests.{lt-ltb, le-ltb}
 use lib.ListN.{length, getD, set, take, drop, length-append, length-replicate}
-use lib.Seq.{take-suc, take-suc-set, getD-take, sets, length-sets}
+use lib.Seq.{take-suc, take-suc-set, getD-take, sets}
 use Rattle.lent.specs.Bytes.{part, zeros}
 use Rattle.lent.specs.Word.{be}
-use Rattle.lent.proofs.Parts.{part-front, part-back, part-replicate, part-sets-after, part-sets-same, sets-part, sets-append, sets-snoc}
+use Rattle.lent.proofs.Parts.{part-front, part-back, part-sets-same, sets-front, sets-follow}
 use Rattle.lent.proofs.Tabs.{length-tab}
 use Rattle.lent.proofs.Words.{length-be, be-split}
 use Rattle.sha256.specs.Sha256.{M, Wt, H₀, padding, schedule, compress, blocks, absorb, bytes, closed, sha256}
@@ -109,18 +109,6 @@ bytes-more h j k = rw (add-one, take-suc h j 0 k, bytes-append, append-nil)
 
 -- ---- padding, as the code writes it into a room of zeros
 
--- what is written right after what stands in front
-sets-front : (l xs ys : List ℕ) (k : ℕ) → length xs ≡ k → sets (sets l 0 xs) k ys ≡ sets l 0 (xs ++ ys)
-sets-front l xs ys k h = rw (sets-append, zero-add, h)
-
--- zeros that follow what was written into zeros are there already
-zeros-follow : (n z : ℕ) (xs : List ℕ) → length xs + z ≤ n → sets (zeros n) 0 xs ≡ sets (zeros n) 0 (xs ++ zeros z)
-zeros-follow n z xs h =
-    let l = sets (zeros n) 0 xs in
-    let long : length l ≡ n = length-sets (zeros n) 0 xs ∙ length-replicate n 0 in
-    let there : part (length xs) z l ≡ zeros z = part-sets-after (length xs) z (zeros n) 0 xs (omega arith) ∙ part-replicate (length xs) z n 0 h in
-    sym (sets-part l (length xs) z (omega arith)) ∙ rw there (rw (sets-append, zero-add))
-
 module _ (room : ℕ) (m : List ℕ) (n total : ℕ) (wide : 128 ≤ room) (long : length m ≡ n) (short : n < 64) (same : total % 64 ≡ n % 64) where
   abbrev end : ℕ
   end = 64 * ((n + 72) / 64)
@@ -149,7 +137,7 @@ module _ (room : ℕ) (m : List ℕ) (n total : ℕ) (wide : 128 ≤ room) (long
       let within : 0 + length whole ≤ length blank = rw (all, length-replicate) (omega arith) in
       rw (
         sets-front blank m (128 ∷ []) n long,
-        zeros-follow room z bit fills,
+        sets-follow room z 0 bit fills,
         sets-front blank front hi (end - 8) length-front,
         sets-front blank (front ++ hi) lo (end - 4) most,
         be-split 4 4 (8 * total),
