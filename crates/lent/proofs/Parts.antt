@@ -4,11 +4,11 @@ use mathlib.Core.Path.{_≡_, refl, sym, ap, _∙_, subst}
 use mathlib.Core.Logic.{_≢_}
 use mathlib.Core.List.{List, [], _∷_, _++_, append-assoc, append-nil}
 use Prim.Native.Nat.{ℕ, zero, suc, _+_, _-_, _≤_, _<_}
-use native.Mathlib.Nat.{add-suc, suc-add, add-zero, add-sub-of-le}
+use native.Mathlib.Nat.{add-suc, suc-add, add-zero, zero-add, add-sub-of-le}
 use native.Mathlib.Decide.{decLe}
 use native.Mathlib.Omega.{arith}
-use lib.ListN.{length, getD, set, take, drop, length-set, length-take, length-drop, length-append, take-append-drop, drop-of-length-le}
-use lib.Seq.{sets, sets-eq, length-sets, set-comm, set-set, take-set-le, drop-set-lt, drop-set-add, take-at, drop-at, take-append-seam, take-take, drop-drop, take-add, take-all, drop-append-le, take-append-le, length-take-le, getD-take, getD-drop, getD-set-other}
+use lib.ListN.{length, getD, set, take, drop, length-set, length-take, length-drop, length-append, take-append-drop, drop-of-length-le, replicate, length-replicate, replicate-append-replicate}
+use lib.Seq.{sets, sets-eq, length-sets, set-comm, set-set, take-set-le, drop-set-lt, drop-set-add, take-at, drop-at, take-append-seam, take-take, drop-drop, take-add, take-all, drop-append-le, drop-append-add, take-append-le, length-take-le, getD-take, getD-drop, getD-set-other}
 use Rattle.lent.specs.Bytes.{part, Apart}
 
 module _ {A : Type 0} where
@@ -36,6 +36,21 @@ module _ {A : Type 0} where
   -- a part in two pieces
   pub part-add : (at n m : ℕ) (l : List A) → part at (n + m) l ≡ part at n l ++ part (at + n) m l
   part-add at n m l = take-add n m (drop at l) ∙ ap (λ (t : List A). part at n l ++ take m t) (drop-drop n at l)
+
+  -- a part of the first of two lists, and one of the second
+  pub part-front : (at n : ℕ) (xs ys : List A) → at + n ≤ length xs → part at n (xs ++ ys) ≡ part at n xs
+  part-front at n xs ys h =
+      let room : n ≤ length (drop at xs) = simp length-drop (omega arith) in
+      rw (drop-append-le at xs ys (omega arith), take-append-le n (drop at xs) ys room)
+
+  pub part-back : (at n : ℕ) (xs ys : List A) → part (length xs + at) n (xs ++ ys) ≡ part at n ys
+  part-back at n xs ys = ap (take n) (drop-append-add xs ys at)
+
+  -- a part of copies of one element
+  pub part-replicate : (at n m : ℕ) (a : A) → at + n ≤ m → part at n (replicate m a) ≡ replicate n a
+  part-replicate at n m a h =
+      let e : at + (n + (m - at - n)) ≡ m = omega arith in
+      rw (← e, ← replicate-append-replicate at (n + (m - at - n)) a, ← replicate-append-replicate n (m - at - n) a, drop-at (replicate at a) (replicate n a ++ replicate (m - at - n) a) at (length-replicate at a), take-at (replicate n a) (replicate (m - at - n) a) n (length-replicate n a))
 
   -- ---- writing
 
@@ -87,6 +102,16 @@ module _ {A : Type 0} where
   sets-append l i [] b = ap (λ (k : ℕ). sets l k b) (sym (add-zero i))
   sets-append l i (x ∷ a) b = sets-append (set l i x) (suc i) a b ∙ ap (λ (k : ℕ). sets (sets (set l i x) (suc i) a) k b) (suc-add i (length a) ∙ sym (add-suc i (length a)))
 
+  -- what is written right after what stands in front
+  pub sets-front : (l xs ys : List A) (k : ℕ) → length xs ≡ k → sets (sets l 0 xs) k ys ≡ sets l 0 (xs ++ ys)
+  sets-front l xs ys k h = rw (sets-append, zero-add, h)
+
+  -- all up to the end of what is written
+  pub take-sets : (l : List A) (i : ℕ) (vs : List A) → i + length vs ≤ length l → take (i + length vs) (sets l i vs) ≡ take i l ++ vs
+  take-sets l i vs h =
+      let front : length (take i l) ≡ i = length-take-le i l (omega arith) in
+      rw (sets-eq vs l i h, take-at (take i l ++ vs) (drop (i + length vs) l) (i + length vs) (rw (length-append, front)))
+
   -- one element more: what a turn of a loop that stores does
   pub sets-snoc : (l : List A) (i : ℕ) (vs : List A) (n : ℕ) (a : A) → length vs ≡ n → set (sets l i vs) (i + n) a ≡ sets l i (vs ++ (a ∷ []))
   sets-snoc l i vs n a h = ap (λ (k : ℕ). set (sets l i vs) (i + k) a) (sym h) ∙ sym (sets-append l i vs (a ∷ []))
@@ -103,6 +128,19 @@ module _ {A : Type 0} where
       let past : length l ≤ 0 + length vs = omega arith in
       let none : drop (0 + length vs) l ≡ [] = drop-of-length-le l past in
       sets-eq vs l 0 (omega arith) ∙ ap (λ (t : List A). vs ++ t) none ∙ append-nil vs
+
+  -- copies of one element that follow what was written over such copies are there already
+  pub sets-follow : (n z : ℕ) (a : A) (xs : List A) → length xs + z ≤ n → sets (replicate n a) 0 xs ≡ sets (replicate n a) 0 (xs ++ replicate z a)
+  sets-follow n z a xs h =
+      let l = sets (replicate n a) 0 xs in
+      let long : length l ≡ n = length-sets (replicate n a) 0 xs ∙ length-replicate n a in
+      let there : part (length xs) z l ≡ replicate z a = part-sets-after (length xs) z (replicate n a) 0 xs (omega arith) ∙ part-replicate (length xs) z n a h in
+      sym (sets-part l (length xs) z (omega arith)) ∙ rw (there, sets-front (replicate n a) xs (replicate z a) (length xs) refl)
+
+  pub sets-over-copies : (n : ℕ) (a : A) (xs : List A) → length xs ≤ n → sets (replicate n a) 0 xs ≡ xs ++ replicate (n - length xs) a
+  sets-over-copies n a xs h =
+      let all : length (xs ++ replicate (n - length xs) a) ≡ length (replicate n a) = rw (length-append, length-replicate, length-replicate) (omega arith) in
+      sets-follow n (n - length xs) a xs (omega arith) ∙ sets-all (replicate n a) (xs ++ replicate (n - length xs) a) all
 
   -- what a callee that was lent the part from a to e has left, said of the whole
   pub sets-lent : (l vs : List A) (i : ℕ) → i + length vs ≤ length l → take i l ++ (vs ++ drop (i + length vs) l) ≡ sets l i vs

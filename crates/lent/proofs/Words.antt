@@ -1,11 +1,12 @@
 -- Laws of words in bytes, over the width.
 -- Assumes nothing.
 use mathlib.Core.Path.{_≡_, refl, sym, ap, _∙_}
-use mathlib.Core.List.{List, [], _∷_, _++_}
+use mathlib.Core.List.{List, [], _∷_, _++_, append-assoc, append-nil}
 use Prim.Native.Nat.{ℕ, zero, suc, _+_, _*_, _/_, _%_, _^_, _≤_, _<_}
-use native.Mathlib.Nat.{pow-suc, add-zero}
+use native.Mathlib.Nat.{pow-suc, add-zero, add-suc, mul-comm, div-one, div-div-eq-div-mul, one-le-pow}
 use native.Mathlib.Numerals.{add-one}
 use native.Mathlib.Omega.{arith}
+use lib.Arith.{mod-mul}
 use lib.ListN.{length, getD, drop, length-append, length-drop}
 use Rattle.lent.specs.Bytes.{Bytes, part, tab}
 use Rattle.lent.specs.Word.{le, be, ofLe}
@@ -47,6 +48,17 @@ le-ofLe (b ∷ l) h =
     let low : (b + 256 * ofLe l) % 256 ≡ b = omega arith in
     let high : (b + 256 * ofLe l) / 256 ≡ ofLe l = omega arith in
     rw (low, high, le-ofLe l (λ i. h (suc i)))
+
+-- a word in two pieces, the higher bytes first
+pub be-split : (m n x : ℕ) → be (m + n) x ≡ be m (x / 256 ^ n) ++ be n (x % 256 ^ n)
+unfolding be
+be-split m zero x = rw (add-zero, div-one, append-nil)
+be-split m (suc n) x =
+    let digits : x % (256 ^ n * 256) ≡ x / 256 % 256 ^ n * 256 + x % 256 = mod-mul x (one-le-pow n 256 (omega arith)) (omega arith) in
+    let high : (x / 256 % 256 ^ n * 256 + x % 256) / 256 ≡ x / 256 % 256 ^ n = omega arith in
+    let low : (x / 256 % 256 ^ n * 256 + x % 256) % 256 ≡ x % 256 = omega arith in
+    let above : x / (256 ^ n * 256) ≡ x / 256 / 256 ^ n = ap (λ (k : ℕ). x / k) (mul-comm (256 ^ n) 256) ∙ sym (div-div-eq-div-mul x 256 (256 ^ n)) in
+    rw (add-suc, pow-suc 256 n, digits, high, low, above, be-split m n (x / 256), append-assoc)
 
 -- four bytes, one by one
 pub part-four : (l : List ℕ) (at : ℕ) → at + 4 ≤ length l → part at 4 l ≡ getD l at 0 ∷ getD l (at + 1) 0 ∷ getD l (at + 2) 0 ∷ getD l (at + 3) 0 ∷ []

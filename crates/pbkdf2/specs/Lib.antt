@@ -1,0 +1,3 @@
+pub mod Hmac
+pub mod Pbkdf2
+pub mod Saved
