@@ -164,6 +164,17 @@ module _ {A : Type 0} where
       ∙ ap (λ (m : List A). sets m (i + suc j) b) (sets-set l i a j x (omega arith))
       ∙ ap (λ (k : ℕ). sets (set (sets l i a) (i + j) x) k b) (add-suc i j)
 
+  -- and the front
+  pub sets-prefix : (l vs : List A) (n : ℕ) → length vs ≡ n → n ≤ length l → vs ++ drop n l ≡ sets l 0 vs
+  sets-prefix l vs n e h = let k : n ≡ 0 + length vs = omega arith in ap (λ (m : ℕ). vs ++ drop m l) k ∙ sym (sets-eq vs l 0 (omega arith))
+
+  -- a part of what was written there
+  pub part-written : (l vs : List A) (at n : ℕ) → at + n ≤ length vs → length vs ≤ length l → part at n (sets l 0 vs) ≡ part at n vs
+  part-written l vs at n h k =
+      let there : part 0 (length vs) (sets l 0 vs) ≡ vs = part-sets-same l 0 vs (omega arith) in
+      let same : 0 + at ≡ at = omega arith in
+      ap (λ (m : ℕ). part m n (sets l 0 vs)) (sym same) ∙ sym (part-part at n 0 (length vs) (sets l 0 vs) h) ∙ ap (part at n) there
+
   -- a write into a part, said of the whole
   pub sets-within : (l : List A) (i n j : ℕ) (vs : List A) → i + n ≤ length l → j + length vs ≤ n → sets l i (sets (part i n l) j vs) ≡ sets l (i + j) vs
   sets-within l i n j vs h k =

@@ -1,2 +1,4 @@
+pub mod Derivation
 pub mod Limits
 pub mod Plans
+pub mod Scrypt

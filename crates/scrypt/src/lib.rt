@@ -1,8 +1,15 @@
 // The derivation: RFC 7914's scrypt over one lent scratch, with its refusals.
 ghost use mathlib.Core.Path.{_≡_};
-ghost use Prim.Native.Nat.{_<_};
+ghost use Prim.Native.Nat.{_+_, _*_, _/_, _^_, _≤_, _<_};
+ghost use lib.ListN.{length};
+ghost use lib.Seq.{sets};
+ghost use Rattle.lent.specs.Bytes.{part, zeros};
+ghost use Rattle.pbkdf2.specs.Pbkdf2.{pbkdf2};
 ghost use Rattle.cost.proofs.Goods.{Sound};
+ghost use Rattle.scrypt.specs.Limits.{longestPassphrase, longestSalt, longestKey};
 ghost use Rattle.scrypt.specs.Plans.{afforded, planOf};
+ghost use Rattle.scrypt.specs.Scrypt.{lanes, mixedLanes, scrypt, allMixings};
+ghost use Rattle.scrypt.specs.Derivation.{planFor, answered, keyed, cleared};
 use cost::Checked;
 use cost::Cost;
 use cost::Flaw;
@@ -22,6 +29,16 @@ pub enum Reason {
     Costs(Flaw),
     Scratch,
     Allowance,
+}
+
+// What a derivation answers: the spacing, the stored blocks and the mixings made, or why not.
+pub enum Answer {
+    Derived {
+        spacing: u64,
+        stored: u64,
+        mixings: u64,
+    },
+    Refused(Reason),
 }
 
 // What a derivation will do: at spacing k with n / k blocks stored, or nothing.
@@ -76,5 +93,91 @@ pub fn planned(
     match c.check() {
         Checked::Good(d) => afford(scratch, allowance, d),
         Checked::Bad(flaw) => Plan::No(Reason::Costs(flaw)),
+    }
+}
+
+// Fills the front of the scratch with the lanes.
+fn lay_lanes(pass: &[u8], salt: &[u8], size: usize, scratch: &mut [u8])
+    requires { ⌜ (length (now pass) ≤ longestPassphrase) × (length (now salt) ≤ longestSalt) × (size ≤ 2 ^ 20) × (size ≤ length (now scratch)) ⌝ }
+    ensures { λ _. ⌜ now (scratch .exit) ≡ sets (now (scratch .entry)) 0 (pbkdf2 (now (pass .entry)) (now (salt .entry)) size) ⌝ }
+{
+    pbkdf2::pbkdf2(pass, salt, &mut scratch[0..size]);
+}
+
+// Fills the key from the lanes where they lie.
+fn take_key(pass: &[u8], size: usize, scratch: &[u8], key: &mut [u8])
+    requires { ⌜ (length (now pass) ≤ longestPassphrase) × (size ≤ 2 ^ 20) × (size ≤ length (now scratch)) × (length (now key) ≤ longestKey) ⌝ }
+    ensures { λ _. ⌜ now (key .exit) ≡ pbkdf2 (now (pass .entry)) (part 0 size (now (scratch .entry))) (length (now (key .entry))) ⌝ }
+{
+    pbkdf2::pbkdf2(pass, &scratch[0..size], key);
+}
+
+// Steps 1 to 3 of section 6, for a plan that goes ahead: fills the key, wipes the scratch, and
+// answers the mixings made.
+fn work(
+    pass: &[u8],
+    salt: &[u8],
+    c: Cost,
+    key: &mut [u8],
+    scratch: &mut [u8],
+    allowance: u64,
+    spacing: u64,
+    stored: u64,
+) -> u64
+    requires { ⌜ planFor (now pass) (now salt) c (now key) (now scratch) allowance ≡ Plan.Go spacing stored ⌝ }
+    ensures { λ made. ⌜ (made ≡ allMixings spacing (now (pass .entry)) (now (salt .entry)) (c .n .0) (c .r) (c .p))
+        × (now (key .exit) ≡ scrypt (now (pass .entry)) (now (salt .entry)) (c .n .0) (c .r) (c .p) (length (now (key .entry))))
+        × (now (scratch .exit) ≡ zeros (length (now (scratch .entry)))) ⌝ }
+{
+    let n = c.n.number() as usize;
+    let r = c.r as usize;
+    let p = c.p as usize;
+    let size = p * (128 * r);
+    lay_lanes(pass, salt, size, scratch);
+    let made = romix::mix_lanes(
+        n,
+        r,
+        p,
+        spacing as usize,
+        stored as usize,
+        scratch,
+        allowance,
+    );
+    take_key(pass, size, scratch, key);
+    lent::wipe_all(scratch);
+    made
+}
+
+// Derives a key. Any request gets an answer: refused, nothing lent has changed; derived, the key
+// buffer holds RFC 7914's key and the whole scratch is zero.
+pub fn derive(
+    pass: &[u8],
+    salt: &[u8],
+    c: Cost,
+    key: &mut [u8],
+    scratch: &mut [u8],
+    allowance: u64,
+) -> Answer
+    ensures { λ x. ⌜ (x ≡ answered (now (pass .entry)) (now (salt .entry)) c (planFor (now (pass .entry)) (now (salt .entry)) c (now (key .entry)) (now (scratch .entry)) allowance))
+        × (now (key .exit) ≡ keyed (now (pass .entry)) (now (salt .entry)) c (now (key .entry)) (planFor (now (pass .entry)) (now (salt .entry)) c (now (key .entry)) (now (scratch .entry)) allowance))
+        × (now (scratch .exit) ≡ cleared (now (scratch .entry)) (planFor (now (pass .entry)) (now (salt .entry)) c (now (key .entry)) (now (scratch .entry)) allowance)) ⌝ }
+{
+    match planned(
+        pass.len(),
+        salt.len(),
+        key.len(),
+        scratch.len(),
+        allowance,
+        c,
+    ) {
+        Plan::Go { spacing, stored } => {
+            let mixings = work(pass, salt, c, key, scratch, allowance, spacing, stored);
+            Answer::Derived {
+                spacing,
+                stored,
+                mixings,
+            }
+        }
+        Plan::No(why) => Answer::Refused(why),
     }
 }
