@@ -4,16 +4,16 @@ use mathlib.Core.Bool.{Bool, true, false}
 use Prim.Native.Nat.{ℕ, _*_, _^_, _≤_, _<_}
 use native.Mathlib.Omega.{arith}
 use lib.Dec.{leb, ltb}
-use borrow.Author.Tests.{leb-true, ltb-true}
+use borrow.Author.Tests.{leb-true, ltb-true, le-leb, lt-ltb}
 use Rattle.lent.specs.Bytes.{pick}
 use Rattle.cost.specs.declared.Cost.{Cost}
 use Rattle.cost.specs.declared.Flaw.{Flaw}
 use Rattle.cost.specs.declared.Flaw.the-variants.{BlockSize, Lanes, NotPower, TooLarge}
 use Rattle.cost.specs.declared.Checked.{Checked}
 use Rattle.cost.specs.declared.Checked.the-variants.{Good, Bad}
-use Rattle.cost.specs.Limits.{mostR, mostP, mostN, okR, okP, okPower, okSize}
+use Rattle.cost.specs.Limits.{mostR, mostP, mostN, okR, okP, isPower, okPower, okSize}
 use Rattle.cost.specs.Costs.{checked}
-use Rattle.cost.proofs.Powers.{both-true, within-means, power-means}
+use Rattle.cost.proofs.Powers.{both-true, within-means, power-means, power-passes}
 
 pub record Sound (c : Cost) : Type 0 where
   pub someR : 1 ≤ c .r
@@ -56,4 +56,18 @@ good-means c d h =
         small = leb-true _ _ (size .0);
         below = ltb-true _ _ (size .1);
       },
+    )
+
+-- and a sound cost passes
+pub sound-good : (c : Cost) → Sound c → checked c ≡ Good c
+unfolding checked okPower
+sound-good c sound =
+    rw (
+      le-leb 1 (c .r) (sound .someR),
+      le-leb (c .r) mostR (sound .fewR),
+      le-leb 1 (c .p) (sound .someP),
+      le-leb (c .p) mostP (sound .fewP),
+      ap (isPower 63) (sound .power) ∙ power-passes 63 (sound .e) (sound .someE) (sound .fewE),
+      le-leb (c .n .0) mostN (sound .small),
+      lt-ltb (c .n .0) (2 ^ (16 * c .r)) (sound .below),
     )

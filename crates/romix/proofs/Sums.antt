@@ -44,3 +44,19 @@ mixings-most zero r N B pos = absurd (omega arith)
 mixings-most (suc k) r N B pos =
     let each : sum N (λ i. named r N B i % suc k) ≤ N * k = sum-most N k (λ i. named r N B i % suc k) (λ i h. omega (arith, mod-lt (named r N B i) pos)) in
     omega arith
+
+-- a sum whose terms are no more is no more
+pub sum-mono : (n : ℕ) (f g : ℕ → ℕ) → ((i : ℕ) → i < n → f i ≤ g i) → sum n f ≤ sum n g
+unfolding sum
+sum-mono zero f g h = omega arith
+sum-mono (suc n) f g h = omega (arith, sum-mono n f g (λ i k. h i (omega arith)), h n (omega arith))
+
+pub sum-same-terms : (n m : ℕ) (f : ℕ → ℕ) → ((i : ℕ) → i < n → f i ≡ m) → sum n f ≡ n * m
+unfolding sum
+sum-same-terms zero m f h = omega arith
+sum-same-terms (suc n) m f h = omega (arith, sum-same-terms n m f (λ i k. h i (omega arith)), h n (omega arith))
+
+-- where each place is no further from a stored block, no more mixings are made
+pub mixings-mono : (k k′ r N : ℕ) (B : List ℕ) → ((j : ℕ) → j % k′ ≤ j % k) → mixings k′ r N B ≤ mixings k r N B
+unfolding mixings
+mixings-mono k k′ r N B h = omega (arith, sum-mono N (λ i. named r N B i % k′) (λ i. named r N B i % k) (λ i _. h (named r N B i)))

@@ -1,4 +1,4 @@
--- What a derivation answers, and what it leaves of the key buffer and the scratch: each a function of all that is lent.
+-- What a derivation answers, and what it leaves of the key buffer and the scratch: one function of all that is lent.
 use mathlib.Core.List.{List}
 use Prim.Native.Nat.{ℕ}
 use lib.ListN.{length}
@@ -8,23 +8,31 @@ use Rattle.scrypt.specs.declared.Answer.{Answer}
 use Rattle.scrypt.specs.declared.Answer.the-variants.{Derived, Refused}
 use Rattle.scrypt.specs.declared.Plan.{Plan}
 use Rattle.scrypt.specs.declared.Plan.the-variants.{Go, No}
-use Rattle.scrypt.specs.Plans.{planOf}
+use Rattle.scrypt.specs.Plans.{reasonNo, planOf}
 use Rattle.scrypt.specs.Scrypt.{scrypt, allMixings}
 
--- the plan for what is lent
+-- an answer in the paper's numbers: beside a refusal's number all others are 0
+pub record Told : Type 0 where
+  pub number : ℕ
+  pub spacing : ℕ
+  pub stored : ℕ
+  pub mixings : ℕ
+
+abbrev pub paper : Answer → Told
+paper (Derived k w m) = record { number = 0; spacing = k; stored = w; mixings = m }
+paper (Refused why) = record { number = reasonNo why; spacing = 0; stored = 0; mixings = 0 }
+
+-- the plan for what is lent: only the lengths count
 abbrev pub planFor : List ℕ → List ℕ → Cost → List ℕ → List ℕ → ℕ → Plan
 planFor P S c key scratch allowance = planOf (length P) (length S) (length key) (length scratch) allowance c
 
-abbrev pub answered : List ℕ → List ℕ → Cost → Plan → Answer
-answered P S c (Go k w) = Derived k w (allMixings k P S (c .n .0) (c .r) (c .p))
-answered P S c (No why) = Refused why
+-- the answer, the key buffer and the scratch afterwards
+abbrev pub carried : List ℕ → List ℕ → Cost → List ℕ → List ℕ → Plan → Told × (List ℕ × List ℕ)
+carried P S c key scratch (Go k w) = (
+  record { number = 0; spacing = k; stored = w; mixings = allMixings k P S (c .n .0) (c .r) (c .p) },
+  (scrypt P S (c .n .0) (c .r) (c .p) (length key), zeros (length scratch)),
+)
+carried P S c key scratch (No why) = (record { number = reasonNo why; spacing = 0; stored = 0; mixings = 0 }, (key, scratch))
 
--- the key buffer: RFC 7914's key, or as it was
-abbrev pub keyed : List ℕ → List ℕ → Cost → List ℕ → Plan → List ℕ
-keyed P S c key (Go k w) = scrypt P S (c .n .0) (c .r) (c .p) (length key)
-keyed P S c key (No why) = key
-
--- the scratch: all zero, or as it was
-abbrev pub cleared : List ℕ → Plan → List ℕ
-cleared scratch (Go k w) = zeros (length scratch)
-cleared scratch (No why) = scratch
+unfoldable pub derivation : List ℕ → List ℕ → Cost → List ℕ → List ℕ → ℕ → Told × (List ℕ × List ℕ)
+derivation P S c key scratch allowance = carried P S c key scratch (planFor P S c key scratch allowance)

@@ -8,8 +8,8 @@ ghost use Rattle.pbkdf2.specs.Pbkdf2.{pbkdf2};
 ghost use Rattle.cost.proofs.Goods.{Sound};
 ghost use Rattle.scrypt.specs.Limits.{longestPassphrase, longestSalt, longestKey};
 ghost use Rattle.scrypt.specs.Plans.{afforded, planOf};
-ghost use Rattle.scrypt.specs.Scrypt.{lanes, mixedLanes, scrypt, allMixings};
-ghost use Rattle.scrypt.specs.Derivation.{planFor, answered, keyed, cleared};
+ghost use Rattle.scrypt.specs.Scrypt.{scrypt, allMixings};
+ghost use Rattle.scrypt.specs.Derivation.{paper, planFor, derivation};
 use cost::Checked;
 use cost::Cost;
 use cost::Flaw;
@@ -68,14 +68,7 @@ fn afford(scratch: usize, allowance: u64, c: Cost) -> Plan
 }
 
 // What a derivation with these lengths, this cost and this allowance will do.
-pub fn planned(
-    pass: usize,
-    salt: usize,
-    key: usize,
-    scratch: usize,
-    allowance: u64,
-    c: Cost,
-) -> Plan
+fn planned(pass: usize, salt: usize, key: usize, scratch: usize, allowance: u64, c: Cost) -> Plan
     ensures { λ x. ⌜ x ≡ planOf pass salt key scratch allowance c ⌝ }
 {
     if LONGEST_PASSPHRASE < pass {
@@ -158,9 +151,8 @@ pub fn derive(
     scratch: &mut [u8],
     allowance: u64,
 ) -> Answer
-    ensures { λ x. ⌜ (x ≡ answered (now (pass .entry)) (now (salt .entry)) c (planFor (now (pass .entry)) (now (salt .entry)) c (now (key .entry)) (now (scratch .entry)) allowance))
-        × (now (key .exit) ≡ keyed (now (pass .entry)) (now (salt .entry)) c (now (key .entry)) (planFor (now (pass .entry)) (now (salt .entry)) c (now (key .entry)) (now (scratch .entry)) allowance))
-        × (now (scratch .exit) ≡ cleared (now (scratch .entry)) (planFor (now (pass .entry)) (now (salt .entry)) c (now (key .entry)) (now (scratch .entry)) allowance)) ⌝ }
+    ensures { λ x. ⌜ (paper x, (now (key .exit), now (scratch .exit)))
+        ≡ derivation (now (pass .entry)) (now (salt .entry)) c (now (key .entry)) (now (scratch .entry)) allowance ⌝ }
 {
     match planned(
         pass.len(),

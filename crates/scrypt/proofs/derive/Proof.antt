@@ -2,14 +2,11 @@
 -- Assumes nothing.
 use borrow.Author.Needs.{needs}
 use native.Mathlib.Omega.{arith}
-use mathlib.Core.Path.{_≡_, sym, ap, _∙_}
+use mathlib.Core.Path.{_≡_, sym, ap, ap₂, _∙_}
 use Prim.Native.Nat.{ℕ}
 use mathlib.Core.List.{List}
-use lib.ListN.{length}
-use Rattle.scrypt.specs.declared.Plan.{Plan}
-use Rattle.scrypt.specs.declared.Answer.{Answer}
 use Rattle.scrypt.specs.declared.Answer.the-variants.{Derived}
-use Rattle.scrypt.specs.Derivation.{answered, keyed, cleared}
+use Rattle.scrypt.specs.Derivation.{Told, paper, carried, derivation}
 use Rattle.scrypt.proofs.derive.Statement.{statement}
 use Rattle.scrypt.proofs.derive.Tie as tie
 
@@ -17,21 +14,20 @@ work-requires : tie.Need-work-requires
 work-requires c κs = sym (c .before .before .before .before .before .planned .ensures) ∙ c .before .before .before .spacing .given .1
 
 returns : tie.Need-returns
+unfolding derivation
 returns c =
     let v = c .before .before .before .before .before .before .before .before .before .before .before .before .before .before .before .args in
-    let told = sym (c .before .before .before .before .before .before .before .before .spacing .given .1) ∙ c .before .before .before .before .before .before .before .before .before .before .planned .ensures in
     let found = c .before .before .before .before .before .before .before .before .spacing .given .0 in
-    let work = c .before .before .before .before .work .ensures in (
-      ap (λ (m : ℕ). Derived (found .0) (found .1 .0) m) (work .0) ∙ ap (answered (v .pass .now) (v .salt .now) (v .c)) told,
-      work .1 ∙ ap (keyed (v .pass .now) (v .salt .now) (v .c) (v .key .now)) told,
-      work .2 ∙ ap (cleared (v .scratch .now)) told,
-    )
+    let told = sym (c .before .before .before .before .before .before .before .before .spacing .given .1) ∙ c .before .before .before .before .before .before .before .before .before .before .planned .ensures in
+    let work = c .before .before .before .before .work .ensures in
+    ap₂ (λ (t : Told) (l : List ℕ × List ℕ). (t, l)) (ap (λ (m : ℕ). paper (Derived (found .0) (found .1 .0) m)) (work .0)) (ap₂ (λ (k s : List ℕ). (k, s)) (work .1) (work .2))
+    ∙ ap (carried (v .pass .now) (v .salt .now) (v .c) (v .key .now) (v .scratch .now)) told
 
 returns-2 : tie.Need-returns-2
+unfolding derivation
 returns-2 c =
     let v = c .before .before .before .before .before .before .before .before .args in
-    let told = sym (c .before .why .given .1) ∙ c .before .before .before .planned .ensures in
-    (ap (answered (v .pass .now) (v .salt .now) (v .c)) told, ap (keyed (v .pass .now) (v .salt .now) (v .c) (v .key .now)) told, ap (cleared (v .scratch .now)) told)
+    ap (carried (v .pass .now) (v .salt .now) (v .c) (v .key .now) (v .scratch .now)) (sym (c .before .why .given .1) ∙ c .before .before .before .planned .ensures)
 
 pub derive-spec : {M : Type 1} → statement M
 derive-spec = tie.close (tie.spec (λ c κs. search needs) (λ c. search needs) work-requires (λ c. search needs) (λ c. search needs) (λ c. search needs) returns returns-2)
