@@ -7,7 +7,7 @@ use native.Mathlib.Nat.{pow-suc, add-zero, add-suc, mul-comm, div-one, div-div-e
 use native.Mathlib.Numerals.{add-one}
 use native.Mathlib.Omega.{arith}
 use lib.Arith.{mod-mul}
-use lib.ListN.{length, getD, drop, length-append, length-drop}
+use lib.ListN.{length, getD, take, drop, length-append, length-drop}
 use Rattle.lent.specs.Bytes.{Bytes, part, tab}
 use Rattle.lent.specs.Word.{le, be, ofLe}
 use Rattle.lent.proofs.Tabs.{tab-part}
@@ -21,6 +21,27 @@ pub length-be : (n x : ℕ) → length (be n x) ≡ n
 unfolding be
 length-be zero x = refl
 length-be (suc n) x = rw (length-append, length-be n (x / 256), add-one)
+
+-- strings made of bytes alone
+pub bytes-append : (xs ys : List ℕ) → Bytes xs → Bytes ys → Bytes (xs ++ ys)
+bytes-append [] ys h k i = k i
+bytes-append (x ∷ xs) ys h k zero = h 0
+bytes-append (x ∷ xs) ys h k (suc i) = bytes-append xs ys (λ j. h (suc j)) k i
+
+pub bytes-take : (n : ℕ) (l : List ℕ) → Bytes l → Bytes (take n l)
+bytes-take zero l h i = omega arith
+bytes-take (suc n) [] h i = omega arith
+bytes-take (suc n) (x ∷ l) h zero = h 0
+bytes-take (suc n) (x ∷ l) h (suc i) = bytes-take n l (λ j. h (suc j)) i
+
+pub bytes-be : (n x : ℕ) → Bytes (be n x)
+unfolding be
+bytes-be zero x i = omega arith
+bytes-be (suc n) x i = bytes-append (be n (x / 256)) (x % 256 ∷ []) (bytes-be n (x / 256)) one i
+  where
+    one : Bytes (x % 256 ∷ [])
+    one zero = omega arith
+    one (suc i) = omega arith
 
 -- the number that bytes say is below 256 to their count
 pub ofLe-lt : (l : List ℕ) → Bytes l → ofLe l < 256 ^ length l

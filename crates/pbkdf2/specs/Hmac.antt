@@ -1,5 +1,4 @@
 -- HMAC with SHA-256, RFC 2104 section 2: H is SHA-256, its blocks have B = 64 bytes and its digests L = 32.
-use mathlib.Core.Bool.{Bool, true, false}
 use mathlib.Core.List.{List, _++_}
 use Prim.Native.Nat.{ℕ, _-_}
 use lib.Dec.{leb}

@@ -1,11 +1,10 @@
 -- `sha256::turns` meets its contract: after t turns the working variables are those after t rounds.
 -- Assumes nothing.
-use Prim.Native.Nat.{ℕ, _+_, _-_, _*_, _≤_}
-use mathlib.Core.Path.{_≡_, refl, sym, ap, _∙_}
+use Prim.Native.Nat.{_-_, _≤_}
+use mathlib.Core.Path.{_≡_, refl}
 use borrow.Author.Needs.{needs}
 use native.Mathlib.Numerals.{add-one}
 use native.Mathlib.Omega.{arith}
-use lib.ListN.{length, getD}
 use Rattle.sha256.specs.Sha256.{K, rounds}
 use Rattle.sha256.proofs.turns.Statement.{statement}
 use Rattle.sha256.proofs.turns.Tie as tie
