@@ -3,15 +3,15 @@
 -- Assumes nothing.
 use mathlib.Core.Path.{_≡_, refl, sym}
 use mathlib.Core.List.{List, [], _∷_, _++_}
-use Prim.Native.Nat.{ℕ, zero, suc, _+_, _*_, _/_, _^_, _<_}
+use Prim.Native.Nat.{ℕ, zero, suc, _+_, _*_, _/_, _%_, _^_, _<_}
 use native.Mathlib.Decide.{decLt}
 use native.Mathlib.Omega.{arith}
 use lib.Bits.{bitXor, xor-lt, xor-block}
 use lib.Pow.{pow-pos}
 use lib.ListN.{length, getD, take, drop, List·getD-eq-default}
 use lib.Seq.{getD-drop}
-use Rattle.lent.specs.Bytes.{part, tab, xors, Bytes}
-use Rattle.lent.specs.Word.{le, ofLe}
+use Rattle.lent.specs.Bytes.{part, tab, joined, xors, Bytes}
+use Rattle.lent.specs.Word.{le, be, ofLe}
 use Rattle.lent.proofs.Tabs.{length-tab}
 use Rattle.lent.proofs.Arrays.{getD-tab}
 
@@ -55,6 +55,16 @@ below-le (suc n) x zero = omega arith
 below-le (suc n) x (suc i) = below-le n (x / 256) i
 
 -- exclusive or needs no digit that neither has
+pub below-be : (n x : ℕ) → Bytes (be n x)
+unfolding be
+below-be zero x = below-nil 256 (omega arith)
+below-be (suc n) x = below-append 256 (be n (x / 256)) (x % 256 ∷ []) (below-be n (x / 256)) (below-cons 256 (x % 256) [] (omega arith) (below-nil 256 (omega arith)))
+
+pub below-joined : (b n : ℕ) (f : ℕ → List ℕ) → 0 < b → ((i : ℕ) → Below b (f i)) → Below b (joined n f)
+unfolding joined
+below-joined b zero f pos h = below-nil b pos
+below-joined b (suc n) f pos h = below-append b (joined n f) (f n) (below-joined b n f pos h) (h n)
+
 pub below-xors : (k : ℕ) (xs ys : List ℕ) → Below (2 ^ k) xs → Below (2 ^ k) ys → Below (2 ^ k) (xors xs ys)
 unfolding xors
 below-xors k [] ys h g i = pow-pos k

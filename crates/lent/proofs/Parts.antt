@@ -37,6 +37,10 @@ module _ {A : Type 0} where
   pub part-add : (at n m : ℕ) (l : List A) → part at (n + m) l ≡ part at n l ++ part (at + n) m l
   part-add at n m l = take-add n m (drop at l) ∙ ap (λ (t : List A). part at n l ++ take m t) (drop-drop n at l)
 
+  -- a part that goes to the end
+  pub part-rest : (at : ℕ) (l : List A) → part at (length l - at) l ≡ drop at l
+  part-rest at l = take-all (length l - at) (drop at l) (simp length-drop (omega arith))
+
   -- a part of the first of two lists, and one of the second
   pub part-front : (at n : ℕ) (xs ys : List A) → at + n ≤ length xs → part at n (xs ++ ys) ≡ part at n xs
   part-front at n xs ys h =

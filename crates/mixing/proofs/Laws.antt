@@ -8,17 +8,12 @@ use native.Mathlib.Omega.{arith}
 use lib.ListN.{length, length-append}
 use Rattle.lent.specs.Bytes.{Bytes, joined}
 use Rattle.lent.proofs.Tabs.{length-joined}
-use Rattle.lent.proofs.Bounds.{below-nil, below-append}
+use Rattle.lent.proofs.Bounds.{below-append, below-joined}
 use Rattle.salsa.proofs.Laws.{length-salsaBytes, salsaBytes-bytes}
 use Rattle.mixing.specs.BlockMix.{X, Y, blockMix}
 
 pub length-pieces : (n : ℕ) (f : ℕ → List ℕ) → ((i : ℕ) → length (f i) ≡ 64) → length (joined n f) ≡ 64 * n
 length-pieces n f h = length-joined n 64 f (λ i _. h i) ∙ mul-comm n 64
-
-joined-bytes : (n : ℕ) (f : ℕ → List ℕ) → ((i : ℕ) → Bytes (f i)) → Bytes (joined n f)
-unfolding joined
-joined-bytes zero f h = below-nil 256 (omega arith)
-joined-bytes (suc n) f h = below-append 256 (joined n f) (f n) (joined-bytes n f h) (h n)
 
 pub length-Y : (r : ℕ) (B : List ℕ) (i : ℕ) → length (Y r B i) ≡ 64
 unfolding X Y
@@ -38,6 +33,6 @@ length-blockMix r B =
 pub blockMix-bytes : (r : ℕ) (B : List ℕ) → Bytes (blockMix r B)
 unfolding blockMix
 blockMix-bytes r B =
-    let evens = joined-bytes r (λ i. Y r B (2 * i)) (λ i. Y-bytes r B (2 * i)) in
-    let odds = joined-bytes r (λ i. Y r B (2 * i + 1)) (λ i. Y-bytes r B (2 * i + 1)) in
+    let evens = below-joined 256 r (λ i. Y r B (2 * i)) (omega arith) (λ i. Y-bytes r B (2 * i)) in
+    let odds = below-joined 256 r (λ i. Y r B (2 * i + 1)) (omega arith) (λ i. Y-bytes r B (2 * i + 1)) in
     below-append 256 (joined r (λ i. Y r B (2 * i))) (joined r (λ i. Y r B (2 * i + 1))) evens odds

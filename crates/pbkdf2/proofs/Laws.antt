@@ -5,19 +5,18 @@ use mathlib.Core.Path.{_≡_, refl, sym, ap, _∙_}
 use mathlib.Core.List.{List, [], _∷_, _++_, append-assoc}
 use Prim.Native.Nat.{ℕ, zero, suc, _+_, _-_, _*_, _/_, _≤_, _<_}
 use native.Mathlib.Nat.{add-zero, add-suc, add-assoc}
-use native.Mathlib.Numerals.{add-one}
 use native.Mathlib.Decide.{decLe}
 use native.Mathlib.Omega.{arith}
 use borrow.Author.Tests.{le-leb, lt-leb}
-use lib.ListN.{length, take, drop, replicate, length-append, length-replicate, take-append-drop, length-drop}
+use lib.ListN.{length, take, replicate, length-append, length-replicate}
 use lib.Seq.{sets, take-all, take-take, take-append-le, take-append-add, length-take-le}
-use Rattle.lent.specs.Bytes.{zeros, joined}
+use Rattle.lent.specs.Bytes.{Bytes, zeros, joined}
 use Rattle.lent.specs.Word.{be}
 use Rattle.lent.proofs.Parts.{sets-front, sets-all}
 use Rattle.lent.proofs.Tabs.{length-xors}
-use Rattle.lent.proofs.Words.{length-be}
+use Rattle.lent.proofs.Bounds.{below-take, below-joined}
 use Rattle.sha256.specs.Sha256.{H₀, absorb, closed, sha256}
-use Rattle.sha256.proofs.Laws.{sha-split, closed-append, length-absorb, length-closed, length-sha256}
+use Rattle.sha256.proofs.Laws.{sha-split, closed-append, length-absorb, length-closed, length-sha256, bytes-sha256}
 use Rattle.pbkdf2.specs.Hmac.{ipad, opad, shortened, block, masked, hmac}
 use Rattle.pbkdf2.specs.Pbkdf2.{F, Ts, derived, pbkdf2}
 use Rattle.pbkdf2.specs.Saved.{twice, piece}
@@ -153,6 +152,14 @@ length-F P S i = length-sha256 (masked (block P) opad ++ sha256 (masked (block P
 pub length-pbkdf2 : (P S : List ℕ) (n : ℕ) → length (pbkdf2 P S n) ≡ n
 unfolding pbkdf2
 length-pbkdf2 P S n = length-derived (F P S) (length-F P S) n
+
+bytes-F : (P S : List ℕ) (i : ℕ) → Bytes (F P S i)
+unfolding hmac
+bytes-F P S i = bytes-sha256 _
+
+pub bytes-pbkdf2 : (P S : List ℕ) (n : ℕ) → Bytes (pbkdf2 P S n)
+unfolding pbkdf2 derived
+bytes-pbkdf2 P S n = below-take 256 n (Ts (F P S) ((n + 31) / 32)) (below-joined 256 ((n + 31) / 32) (λ i. F P S (suc i)) (omega arith) (λ i. bytes-F P S (suc i)))
 
 -- a shorter key is the start of a longer one
 pub pbkdf2-start : (P S : List ℕ) (n m : ℕ) → n ≤ m → take n (pbkdf2 P S m) ≡ pbkdf2 P S n

@@ -1,7 +1,6 @@
 // HMAC with SHA-256 (RFC 2104) and PBKDF2 with one iteration over it (RFC 8018), over lent bytes.
 // The key's block and the whole blocks of a salt are hashed once: every piece of the output starts from the two saved hash values.
 ghost use mathlib.Core.Path.{_≡_};
-ghost use mathlib.Core.List.{_++_};
 ghost use Prim.Native.Nat.{_+_, _-_, _*_, _%_, _^_, _≤_, _<_};
 ghost use lib.ListN.{length, take, drop};
 ghost use lib.Seq.{sets};

@@ -5,14 +5,16 @@ use mathlib.Core.List.{List, [], _∷_, _++_, append-assoc, append-nil}
 use Prim.Native.Nat.{ℕ, zero, suc, _+_, _-_, _*_, _/_, _%_, _≤_, _<_}
 use native.Mathlib.Numerals.{add-one}
 use native.Mathlib.Nat.{add-zero, add-suc}
+use native.Mathlib.Decide.{decLe}
 use native.Mathlib.Omega.{arith}
 use borrow.Author.Tests.{lt-ltb, le-ltb}
-use lib.ListN.{length, getD, set, take, drop, length-append, length-replicate}
-use lib.Seq.{take-suc, take-suc-set, getD-take, sets}
-use Rattle.lent.specs.Bytes.{part, zeros}
+use lib.ListN.{length, getD, set, take, length-append, length-replicate}
+use lib.Seq.{take-suc, take-suc-set, take-all, take-append-le, getD-take, getD-set-same, sets}
+use Rattle.lent.specs.Bytes.{Bytes, part, zeros}
 use Rattle.lent.specs.Word.{be}
 use Rattle.lent.proofs.Parts.{part-front, part-back, part-sets-same, sets-front, sets-follow}
 use Rattle.lent.proofs.Tabs.{length-tab}
+use Rattle.lent.proofs.Bounds.{below-append, below-be}
 use Rattle.lent.proofs.Words.{length-be, be-split}
 use Rattle.sha256.specs.Sha256.{M, Wt, H₀, padding, schedule, compress, blocks, absorb, bytes, closed, sha256}
 
@@ -36,6 +38,44 @@ module _ (b w : List ℕ) (t : ℕ) (fits : t < length w) (front : take t w ≡ 
         getD-take t w (t - 15) 0 (omega arith),
         getD-take t w (t - 16) 0 (omega arith),
       )
+
+-- for readers: each word of the whole schedule is what section 6.2.2 says
+
+length-schedule : (b : List ℕ) (n : ℕ) → length (schedule b n) ≡ n
+unfolding schedule
+length-schedule b zero = refl
+length-schedule b (suc n) = rw (length-append, length-schedule b n, add-one)
+
+schedule-front : (b : List ℕ) (n t : ℕ) → t ≤ n → take t (schedule b n) ≡ schedule b t
+unfolding schedule
+schedule-front b zero t h = let none : t ≡ 0 = omega arith in rw none
+schedule-front b (suc n) t h =
+    let long = length-schedule b n in
+    let all = length-schedule b (suc n) in
+    elim (decLe t n) [
+      | yes k ↦ take-append-le t (schedule b n) _ (omega arith) ∙ schedule-front b n t k
+      | no k ↦ let last : t ≡ suc n = omega arith in rw last (take-all (suc n) (schedule b (suc n)) (omega arith))
+    ]
+
+module _ (b : List ℕ) (n t : ℕ) (h : t < n) where
+  abbrev W : List ℕ
+  W = schedule b n
+
+  long : length W ≡ n
+  long = length-schedule b n
+
+  word : (v : ℕ) → take (t + 1) (set W t v) ≡ schedule b (t + 1) → getD W t 0 ≡ v
+  word v e =
+      sym (getD-take (t + 1) W t 0 (omega arith))
+      ∙ ap (λ (l : List ℕ). getD l t 0) (schedule-front b n (t + 1) (omega arith) ∙ sym e)
+      ∙ getD-take (t + 1) (set W t v) t 0 (omega arith)
+      ∙ getD-set-same W t v 0 (omega (arith, long))
+
+  pub schedule-first : t < 16 → getD W t 0 ≡ M b t
+  schedule-first k = word (M b t) (schedule-load b W t (omega (arith, long)) (schedule-front b n t (omega arith)) k)
+
+  pub schedule-recurs : 16 ≤ t → getD W t 0 ≡ Wt W t
+  schedule-recurs k = word (Wt W t) (schedule-next b W t (omega (arith, long)) (schedule-front b n t (omega arith)) k)
 
 -- ---- blocks: those of the first of two strings, and those of both where the first has whole blocks
 
@@ -97,15 +137,24 @@ pub length-sha256 : (m : List ℕ) → length (sha256 m) ≡ 32
 unfolding sha256 H₀
 length-sha256 m = length-closed H₀ m (length m) refl
 
-bytes-append : (xs ys : List ℕ) → bytes (xs ++ ys) ≡ bytes xs ++ bytes ys
+bytes-join : (xs ys : List ℕ) → bytes (xs ++ ys) ≡ bytes xs ++ bytes ys
 unfolding bytes
-bytes-append [] ys = refl
-bytes-append (x ∷ xs) ys = rw (bytes-append xs ys, append-assoc)
+bytes-join [] ys = refl
+bytes-join (x ∷ xs) ys = rw (bytes-join xs ys, append-assoc)
+
+bytes-bytes : (xs : List ℕ) → Bytes (bytes xs)
+unfolding bytes
+bytes-bytes [] i = omega arith
+bytes-bytes (x ∷ xs) i = below-append 256 (be 4 x) (bytes xs) (below-be 4 x) (bytes-bytes xs) i
+
+pub bytes-sha256 : (m : List ℕ) → Bytes (sha256 m)
+unfolding sha256 closed
+bytes-sha256 m = bytes-bytes (absorb H₀ (m ++ padding (length m)))
 
 -- one word more
 pub bytes-more : (h : List ℕ) (j : ℕ) → j < length h → bytes (take (j + 1) h) ≡ bytes (take j h) ++ be 4 (getD h j 0)
 unfolding bytes
-bytes-more h j k = rw (add-one, take-suc h j 0 k, bytes-append, append-nil)
+bytes-more h j k = rw (add-one, take-suc h j 0 k, bytes-join, append-nil)
 
 -- ---- padding, as the code writes it into a room of zeros
 

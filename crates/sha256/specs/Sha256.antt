@@ -16,7 +16,6 @@ Ch x y z = bitXor (bitAnd x y) (bitAnd (2 ^ 32 - 1 - x) z)
 abbrev pub Maj : ℕ → ℕ → ℕ → ℕ
 Maj x y z = bitXor (bitXor (bitAnd x y) (bitAnd x z)) (bitAnd y z)
 
--- Σ0, Σ1, σ0 and σ1
 abbrev pub Σ₀ : ℕ → ℕ
 Σ₀ x = bitXor (bitXor (rotr 2 x) (rotr 13 x)) (rotr 22 x)
 
@@ -59,10 +58,11 @@ H₀ = 0x6a09e667 ∷ 0xbb67ae85 ∷ 0x3c6ef372 ∷ 0xa54ff53a ∷ 0x510e527f �
 
 -- ---- 6.2.2 hash computation
 
--- step 1, the message schedule of the block b: W_0, .. W_(t-1)
+-- step 1: W_t for t of 16 and more, from the words before it
 abbrev pub Wt : List ℕ → ℕ → ℕ
 Wt W t = plus (plus (plus (σ₁ (getD W (t - 2) 0)) (getD W (t - 7) 0)) (σ₀ (getD W (t - 15) 0))) (getD W (t - 16) 0)
 
+-- the message schedule of the block b as far as W_(t-1); all of it is `schedule b 64`
 unfoldable pub schedule : List ℕ → ℕ → List ℕ
 schedule b zero = []
 schedule b (suc t) = schedule b t ++ (pick (ltb t 16) (M b t) (Wt (schedule b t) t) ∷ [])

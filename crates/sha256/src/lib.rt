@@ -152,7 +152,7 @@ fn parse(s: &[u8], at: usize) -> [u32; 64]
 }
 
 // The whole schedule. The words are passed on, never the table, which would be copied at each turn.
-fn expand(s: &[u8], at: usize) -> [u32; 64]
+fn schedule(s: &[u8], at: usize) -> [u32; 64]
     requires { ⌜ at + 64 ≤ length (now s) ⌝ }
     ensures { λ r. ⌜ r ≡ schedule (part at 64 (now (s .entry))) 64 ⌝ }
 {
@@ -166,7 +166,7 @@ fn expand(s: &[u8], at: usize) -> [u32; 64]
 }
 
 // Step 3: one round.
-fn turn(v: [u32; 8], k: u32, w: u32) -> [u32; 8]
+fn round(v: [u32; 8], k: u32, w: u32) -> [u32; 8]
     ensures { λ r. ⌜ r ≡ round k w v ⌝ }
 {
     let a = v[0];
@@ -186,14 +186,14 @@ fn turn(v: [u32; 8], k: u32, w: u32) -> [u32; 8]
 }
 
 // The 64 rounds. The table is a local: read from the constant inside the loop it would be laid out anew at each turn.
-fn turns(v: [u32; 8], w: [u32; 64]) -> [u32; 8]
+fn rounds(v: [u32; 8], w: [u32; 64]) -> [u32; 8]
     ensures { λ r. ⌜ r ≡ rounds 64 w v ⌝ }
 {
     let k = K;
     let mut y = v;
     let mut t = 0;
     while t < 64 {
-        let z = turn(y, k[t], w[t]);
+        let z = round(y, k[t], w[t]);
         y = z;
         t += 1;
     }
@@ -218,8 +218,8 @@ fn compress(h: [u32; 8], s: &[u8], at: usize) -> [u32; 8]
     requires { ⌜ at + 64 ≤ length (now s) ⌝ }
     ensures { λ r. ⌜ r ≡ compress h (part at 64 (now (s .entry))) ⌝ }
 {
-    let w = expand(s, at);
-    let v = turns(h, w);
+    let w = schedule(s, at);
+    let v = rounds(h, w);
     sums(v, h)
 }
 

@@ -1,6 +1,6 @@
 -- `hashes::million` is safe and ends: the block and the hash value keep their lengths.
 -- Assumes nothing.
-use Prim.Native.Nat.{_-_, _≤_}
+use Prim.Native.Nat.{_-_}
 use mathlib.Core.Path.{_≡_}
 use borrow.Author.Needs.{needs}
 use lib.ListN.{length}

@@ -1,9 +1,7 @@
 -- `pbkdf2::keyed` meets its contract: the masked block is all that is absorbed.
 -- Assumes nothing.
-use Prim.Native.Nat.{ℕ, _≤_}
-use mathlib.Core.Path.{_≡_}
+use Prim.Native.Nat.{_≤_}
 use borrow.Author.Needs.{needs}
-use native.Mathlib.Omega.{arith}
 use lib.ListN.{length}
 use lib.Seq.{take-all}
 use Rattle.pbkdf2.proofs.keyed.Statement.{statement}

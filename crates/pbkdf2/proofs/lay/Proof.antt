@@ -1,11 +1,10 @@
 -- `pbkdf2::lay` meets its contract: where there is room for all 32 bytes, taking more of them changes nothing.
 -- Assumes nothing.
-use Prim.Native.Nat.{ℕ, _+_, _-_, _≤_}
-use mathlib.Core.Path.{_≡_, refl, sym, ap, _∙_}
+use Prim.Native.Nat.{_-_}
 use borrow.Author.Needs.{needs}
 use native.Mathlib.Nat.{sub-zero}
 use native.Mathlib.Omega.{arith}
-use lib.ListN.{length, take}
+use lib.ListN.{length}
 use lib.Seq.{take-all}
 use Rattle.pbkdf2.proofs.lay.Statement.{statement}
 use Rattle.pbkdf2.proofs.lay.Tie as tie

@@ -1,12 +1,12 @@
 -- `pbkdf2::masked` meets its contract: the loop stores the masked bytes in order.
 -- Assumes nothing.
-use Prim.Native.Nat.{ℕ, _+_, _-_, _≤_}
+use Prim.Native.Nat.{_-_, _≤_}
 use mathlib.Core.Path.{_≡_, refl, sym, ap, _∙_}
 use borrow.Author.Needs.{needs}
 use native.Mathlib.Numerals.{add-one}
 use native.Mathlib.Omega.{arith}
 use lib.Bits.{bitXor}
-use lib.ListN.{length, getD, take, replicate, length-set, length-replicate, getD-replicate}
+use lib.ListN.{length, getD, take, replicate, length-set, getD-replicate}
 use lib.Seq.{take-all, take-suc-set}
 use Rattle.lent.specs.Bytes.{tab}
 use Rattle.lent.proofs.Tabs.{tab-ext, tab-xors}

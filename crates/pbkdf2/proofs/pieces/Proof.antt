@@ -1,6 +1,6 @@
 -- `pbkdf2::pieces` meets its contract: after i turns the first i pieces are laid out, as far as there is room.
 -- Assumes nothing.
-use Prim.Native.Nat.{ℕ, suc, _+_, _-_, _*_, _/_, _≤_}
+use Prim.Native.Nat.{_+_, _-_, _/_, _≤_}
 use mathlib.Core.Path.{_≡_, refl, sym, ap, _∙_}
 use borrow.Author.Needs.{needs}
 use native.Mathlib.Numerals.{add-one}
@@ -8,7 +8,7 @@ use native.Mathlib.Omega.{arith}
 use lib.ListN.{length, take}
 use lib.Seq.{sets, take-nil}
 use Rattle.lent.specs.Bytes.{joined}
-use Rattle.pbkdf2.specs.Pbkdf2.{Ts, derived}
+use Rattle.pbkdf2.specs.Pbkdf2.{Ts}
 use Rattle.pbkdf2.specs.Saved.{piece}
 use Rattle.pbkdf2.proofs.Laws.{length-piece, laid-more, laid-all}
 use Rattle.pbkdf2.proofs.pieces.Statement.{statement}

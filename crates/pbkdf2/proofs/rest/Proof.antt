@@ -1,13 +1,12 @@
 -- `pbkdf2::rest` meets its contract: what is written at the front of the room reads back.
 -- Assumes nothing.
-use Prim.Native.Nat.{ℕ, _+_, _-_, _≤_}
-use mathlib.Core.Path.{_≡_, refl, sym, ap, _∙_}
+use Prim.Native.Nat.{_-_}
+use mathlib.Core.Path.{_≡_}
 use borrow.Author.Needs.{needs}
 use native.Mathlib.Omega.{arith}
-use lib.ListN.{length, take, drop, length-drop}
-use lib.Seq.{take-all}
+use lib.ListN.{length, drop, length-drop}
 use Rattle.lent.specs.Bytes.{zeros}
-use Rattle.lent.proofs.Parts.{part-sets-same}
+use Rattle.lent.proofs.Parts.{part-rest, part-sets-same}
 use Rattle.pbkdf2.proofs.rest.Statement.{statement}
 use Rattle.pbkdf2.proofs.rest.Tie as tie
 
@@ -17,8 +16,7 @@ returns c =
     let m = drop (a .at) (a .s .now) in
     let n = length (a .s .now) - a .at in
     let long : length m ≡ n = length-drop (a .at) (a .s .now) in
-    let whole : take n m ≡ m = take-all n m (omega arith) in
-    rw (c .before .copy .ensures, whole, ← long) (part-sets-same (zeros 128) 0 m (omega arith))
+    rw (c .before .copy .ensures, part-rest (a .at) (a .s .now), ← long) (part-sets-same (zeros 128) 0 m (omega arith))
 
 pub rest-spec : {M : Type 1} → statement M
 rest-spec =

@@ -1,10 +1,9 @@
 -- `pbkdf2::twice` meets its contract: the inner digest fills the room that the outer hash is closed with.
 -- Assumes nothing.
-use mathlib.Core.Path.{_≡_, refl, sym, ap, _∙_}
+use mathlib.Core.Path.{_≡_, _∙_}
 use borrow.Author.Needs.{needs}
 use Prim.Native.Nat.{_+_}
 use lib.ListN.{length}
-use lib.Seq.{sets}
 use Rattle.lent.specs.Bytes.{zeros}
 use Rattle.lent.proofs.Parts.{sets-all}
 use Rattle.sha256.specs.Sha256.{closed}

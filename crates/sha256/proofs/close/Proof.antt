@@ -1,7 +1,7 @@
 -- `sha256::close` meets its contract: the message's whole blocks are absorbed, then those that its rest fills with the padding.
 -- Assumes nothing.
-use Prim.Native.Nat.{ℕ, _+_, _-_, _*_, _/_, _%_, _≤_}
-use mathlib.Core.Path.{_≡_, refl, sym, ap, _∙_}
+use Prim.Native.Nat.{_+_, _-_, _*_, _/_, _%_}
+use mathlib.Core.Path.{_≡_}
 use mathlib.Core.List.{_++_, append-assoc}
 use borrow.Author.Needs.{needs}
 use native.Mathlib.Omega.{arith}

@@ -1,11 +1,11 @@
 -- `sha256::last` meets its contract: the four writes lay the padded message out from the front.
 -- Assumes nothing.
-use Prim.Native.Nat.{ℕ, _+_, _-_, _*_, _/_, _≤_}
-use mathlib.Core.Path.{_≡_, refl, sym, ap, _∙_}
+use Prim.Native.Nat.{_-_}
+use mathlib.Core.Path.{_≡_}
 use borrow.Author.Needs.{needs}
 use native.Mathlib.Omega.{arith}
-use lib.ListN.{length, take, drop, length-drop, length-set}
-use lib.Seq.{take-all}
+use lib.ListN.{length, drop, length-drop, length-set}
+use Rattle.lent.proofs.Parts.{part-rest}
 use Rattle.sha256.proofs.Laws.{laid-out}
 use Rattle.sha256.proofs.last.Statement.{statement}
 use Rattle.sha256.proofs.last.Tie as tie
@@ -23,8 +23,7 @@ returns c =
     let m = drop (a .at) (a .s .now) in
     let n = length (a .s .now) - a .at in
     let long : length m ≡ n = length-drop (a .at) (a .s .now) in
-    let whole : take n m ≡ m = take-all n m (omega arith) in
-    rw (second .put-be322 .ensures, first .put-be32 .ensures, copied .copy .ensures, whole) (laid-out 128 m n (a .total) (omega arith) long (omega arith) (start .pre .2))
+    rw (second .put-be322 .ensures, first .put-be32 .ensures, copied .copy .ensures, part-rest (a .at) (a .s .now)) (laid-out 128 m n (a .total) (omega arith) long (omega arith) (start .pre .2))
 
 pub last-spec : {M : Type 1} → statement M
 last-spec =

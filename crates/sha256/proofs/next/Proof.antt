@@ -1,6 +1,5 @@
 -- `sha256::next` meets its contract: its callees say each term of the sum.
 -- Assumes nothing.
-use borrow.Author.Needs.{needs}
 use Rattle.sha256.proofs.next.Statement.{statement}
 use Rattle.sha256.proofs.next.Tie as tie
 

@@ -1,12 +1,11 @@
 -- `sha256::put` meets its contract: after j turns the bytes of the first j words are written.
 -- Assumes nothing.
-use Prim.Native.Nat.{ℕ, _+_, _-_, _*_, _≤_, _<_}
-use mathlib.Core.Path.{_≡_, refl, sym, ap, _∙_}
+use Prim.Native.Nat.{_-_, _*_, _≤_, _<_}
+use mathlib.Core.Path.{_≡_, refl}
 use borrow.Author.Needs.{needs}
 use native.Mathlib.Omega.{arith}
-use lib.ListN.{length, take, getD}
+use lib.ListN.{length, take}
 use lib.Seq.{sets, length-take-le, take-all}
-use Rattle.lent.specs.Word.{be}
 use Rattle.lent.proofs.Parts.{sets-append}
 use Rattle.sha256.specs.Sha256.{bytes}
 use Rattle.sha256.proofs.Laws.{length-bytes, bytes-more}

@@ -1,9 +1,9 @@
--- `sha256::turn` meets its contract: its callees say each term of the two sums.
+-- `sha256::round` meets its contract: its callees say each term of the two sums.
 -- Assumes nothing.
 use borrow.Author.Needs.{needs}
 use Rattle.sha256.specs.Sha256.{round}
-use Rattle.sha256.proofs.turn.Statement.{statement}
-use Rattle.sha256.proofs.turn.Tie as tie
+use Rattle.sha256.proofs.round.Statement.{statement}
+use Rattle.sha256.proofs.round.Tie as tie
 
 returns : tie.Need-returns
 unfolding round
@@ -22,6 +22,6 @@ returns c =
       c .before .before .before .before .before .before .before .before .before .before .big1 .ensures,
     )
 
-pub turn-spec : {M : Type 1} → statement M
-turn-spec =
+pub round-spec : {M : Type 1} → statement M
+round-spec =
     tie.close (tie.spec (λ c. search needs) (λ c. search needs) (λ c. search needs) (λ c. search needs) (λ c. search needs) (λ c. search needs) (λ c. search needs) (λ c. search needs) (λ c κs. tt) (λ c κs. tt) (λ c κs. tt) (λ c κs. tt) (λ c κs. tt) (λ c κs. tt) (λ c κs. tt) (λ c κs. tt) (λ c κs. tt) (λ c κs. tt) (λ c κs. tt) returns)

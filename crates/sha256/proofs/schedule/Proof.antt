@@ -1,7 +1,7 @@
--- `sha256::expand` meets its contract: after the turn of t the first t + 1 words are the schedule's.
+-- `sha256::schedule` meets its contract: after the turn of t the first t + 1 words are the schedule's.
 -- Assumes nothing.
-use Prim.Native.Nat.{ℕ, _+_, _-_, _*_, _≤_}
-use mathlib.Core.Path.{_≡_, refl, sym, ap, _∙_}
+use Prim.Native.Nat.{_+_, _-_, _≤_}
+use mathlib.Core.Path.{_≡_, sym, _∙_}
 use borrow.Author.Needs.{needs}
 use native.Mathlib.Omega.{arith}
 use lib.ListN.{length, take, length-set}
@@ -9,8 +9,8 @@ use lib.Seq.{take-all}
 use Rattle.lent.specs.Bytes.{part}
 use Rattle.sha256.specs.Sha256.{schedule}
 use Rattle.sha256.proofs.Laws.{schedule-next}
-use Rattle.sha256.proofs.expand.Statement.{statement}
-use Rattle.sha256.proofs.expand.Tie as tie
+use Rattle.sha256.proofs.schedule.Statement.{statement}
+use Rattle.sha256.proofs.schedule.Tie as tie
 
 abbrev Inv-loop : tie.InvT-loop
 Inv-loop s at w₀ t₀ w t = (16 ≤ t) × (t ≤ 64) × (length w ≡ 64) × (take t w ≡ schedule (part at 64 s) t)
@@ -37,6 +37,6 @@ returns c =
     let past : c .before .loop .t ≡ 64 = omega arith in
     sym (take-all 64 (c .before .loop .w) (omega arith)) ∙ (rw past at (c .before .loop .inv .3))
 
-pub expand-spec : {M : Type 1} → statement M
-expand-spec =
+pub schedule-spec : {M : Type 1} → statement M
+schedule-spec =
     tie.close (tie.spec Inv-loop μ-loop (λ c κs. search needs) loop-holds (λ c. search needs) (λ c. search needs) (λ c. search needs) (λ c. search needs) (λ c. search needs) (λ c. search needs) (λ c. search needs) (λ c. search needs) (λ c. search needs) (λ c. search needs) (λ c. search needs) (λ c. search needs) (λ c κs. search needs) (λ c. search needs) (λ c. search needs) (λ c. search needs) (λ c. search needs) loop-again returns)
