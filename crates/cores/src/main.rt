@@ -2,7 +2,7 @@
 ghost use mathlib.Core.Path.{_≡_};
 ghost use Prim.Native.Nat.{_+_, _*_, _≤_};
 ghost use lib.ListN.{length};
-use libc::STDOUT_FILENO;
+use lines::line;
 
 // RFC 7914 section 8.
 const CORE: [u8; 64] = *b"\
@@ -21,16 +21,6 @@ const BLOCK: [u8; 128] = *b"\
     \xcd\x98\x43\x80\x37\x46\x66\xbb\x8f\xfc\xb5\xbf\x40\xc2\x54\xb0\
     \x67\xd2\x7c\x51\xce\x4a\xd5\xfe\xd8\x29\xc9\x0b\x50\x5a\x57\x1b\
     \x7f\x4d\x1c\xad\x6a\x52\x3c\xda\x77\x0e\x67\xbc\xea\xaf\x7e\x89";
-
-fn line(label: &[u8], s: &[u8]) {
-    io::write_all(STDOUT_FILENO, label);
-    let mut i = 0;
-    while i < s.len() {
-        io::print_hex(STDOUT_FILENO, s[i] as u64, 2);
-        i += 1;
-    }
-    io::write_all(STDOUT_FILENO, b"\n");
-}
 
 // A pattern whose pieces all differ.
 fn pattern(s: &mut [u8])

@@ -2,7 +2,7 @@
 ghost use mathlib.Core.Path.{_≡_};
 ghost use Prim.Native.Nat.{_+_, _^_, _≤_, _<_};
 ghost use Rattle.cost.specs.Limits.{within, okPower, okSize};
-ghost use Rattle.cost.specs.Costs.{checked, powerOf, checkedExponent};
+ghost use Rattle.cost.specs.Costs.{flawNo, checked, powerOf, checkedExponent};
 ghost use Rattle.cost.specs.Spacing.{spacing};
 
 // The limits. Each stands here once, and once in specs/Limits.antt; the function that tests it ties
@@ -180,4 +180,16 @@ pub fn space(n: u64, p: u64, f: u64) -> u64
         k = k * 2;
     }
     k
+}
+
+// The paper's number of a flaw.
+pub fn flaw_number(flaw: Flaw) -> u64
+    ensures { λ n. ⌜ n ≡ flawNo flaw ⌝ }
+{
+    match flaw {
+        Flaw::BlockSize => 4,
+        Flaw::Lanes => 5,
+        Flaw::NotPower => 6,
+        Flaw::TooLarge => 7,
+    }
 }

@@ -1,21 +1,10 @@
 // Vectors of SHA-256, HMAC and PBKDF2, one to a line: a label, and the bytes in hexadecimal.
-use libc::STDOUT_FILENO;
 ghost use Prim.Native.Nat.{_≤_, _<_, _^_};
 ghost use lib.ListN.{length};
 
-fn hex(s: &[u8]) {
-    let mut i = 0;
-    while i < s.len() {
-        io::print_hex(STDOUT_FILENO, lent::wide(s[i]) as u64, 2);
-        i += 1;
-    }
-}
-
 fn line(label: &[u8], s: &[u8]) {
-    io::write_all(STDOUT_FILENO, label);
-    io::write_all(STDOUT_FILENO, b" ");
-    hex(s);
-    io::write_all(STDOUT_FILENO, b"\n");
+    lines::word(label);
+    lines::line(b" ", s);
 }
 
 // The bytes 0, 1, .. 250, 0, 1, ..

@@ -7,7 +7,7 @@ ghost use Rattle.lent.specs.Bytes.{part, zeros};
 ghost use Rattle.pbkdf2.specs.Pbkdf2.{pbkdf2};
 ghost use Rattle.cost.proofs.Goods.{Sound};
 ghost use Rattle.scrypt.specs.Limits.{longestPassphrase, longestSalt, longestKey};
-ghost use Rattle.scrypt.specs.Plans.{afforded, planOf};
+ghost use Rattle.scrypt.specs.Plans.{reasonNo, afforded, planOf};
 ghost use Rattle.scrypt.specs.Scrypt.{scrypt, allMixings};
 ghost use Rattle.scrypt.specs.Derivation.{paper, planFor, derivation};
 use cost::Checked;
@@ -171,5 +171,19 @@ pub fn derive(
             }
         }
         Plan::No(why) => Answer::Refused(why),
+    }
+}
+
+// The paper's number of a reason.
+pub fn reason_number(why: Reason) -> u64
+    ensures { λ n. ⌜ n ≡ reasonNo why ⌝ }
+{
+    match why {
+        Reason::Passphrase => 1,
+        Reason::Salt => 2,
+        Reason::Key => 3,
+        Reason::Costs(flaw) => cost::flaw_number(flaw),
+        Reason::Scratch => 8,
+        Reason::Allowance => 9,
     }
 }
