@@ -1,0 +1,30 @@
+-- `text::password` meets its contract: its length lies within the text.
+-- Assumes nothing.
+use mathlib.Core.Path.{_≡_, ap, _∙_}
+use borrow.Author.Needs.{needs}
+use native.Mathlib.Omega.{arith}
+use Prim.Native.Nat.{_-_, _≤_}
+use lib.ListN.{length, drop, length-drop}
+use lib.Seq.{take-all}
+use Rattle.text.specs.declared.Split.{Split}
+use Rattle.text.specs.Login.{passwordOf}
+use Rattle.text.proofs.Splits.{within}
+use Rattle.text.proofs.password.Statement.{statement}
+use Rattle.text.proofs.password.Tie as tie
+
+sub-at : tie.Need-sub-at
+sub-at c =
+    let inside = within (c .before .before .args .text .now) in
+    let long = ap (λ (s : Split). s .password) (c .lengths .ensures) in
+    omega arith
+
+returns : tie.Need-returns
+unfolding passwordOf
+returns c =
+    let text = c .before .before .before .args .text .now in
+    let at = length text - c .before .lengths .result .password in
+    let all : length (drop at text) ≤ length text - at = simp length-drop (omega arith) in
+    take-all (length text - at) (drop at text) all ∙ ap (λ (s : Split). drop (length text - s .password) text) (c .before .lengths .ensures)
+
+pub password-spec : {M : Type 1} → statement M
+password-spec = tie.close (tie.spec (λ c κs. search needs) sub-at (λ c. search needs) (λ c. search needs) (λ c. search needs) returns)
