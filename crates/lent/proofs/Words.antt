@@ -48,7 +48,13 @@ le-ofLe (b ∷ l) h =
     let high : (b + 256 * ofLe l) / 256 ≡ ofLe l = omega arith in
     rw (low, high, le-ofLe l (λ i. h (suc i)))
 
--- four bytes, one by one
+-- two bytes, and four, one by one
+pub part-two : (l : List ℕ) (at : ℕ) → at + 2 ≤ length l → part at 2 l ≡ getD l at 0 ∷ getD l (at + 1) 0 ∷ []
+unfolding tab
+part-two l at h =
+    let room : 2 ≤ length (drop at l) = simp length-drop (omega arith) in
+    sym (tab-part at 2 l 0 room) ∙ ap (λ (k : ℕ). getD l k 0 ∷ getD l (at + 1) 0 ∷ []) (add-zero at)
+
 pub part-four : (l : List ℕ) (at : ℕ) → at + 4 ≤ length l → part at 4 l ≡ getD l at 0 ∷ getD l (at + 1) 0 ∷ getD l (at + 2) 0 ∷ getD l (at + 3) 0 ∷ []
 unfolding tab
 part-four l at h =

@@ -1,0 +1,7 @@
+pub mod Costing
+pub mod Trailers
+pub mod Cards
+pub mod Pieces
+pub mod Meanings
+pub mod Answers
+pub mod Whole
