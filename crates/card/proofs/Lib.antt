@@ -3,5 +3,6 @@ pub mod Trailers
 pub mod Cards
 pub mod Pieces
 pub mod Meanings
+pub mod Behind
 pub mod Answers
 pub mod Whole

@@ -1,4 +1,4 @@
--- Cards of edition 1: what is written reads back, what is accepted is the only card with its meaning, and the last of several cards is found behind the others.
+-- Cards of edition 1: what is written reads back, and what is accepted is the only card with its meaning.
 -- Each is the law over the edition, at the first.
 -- Assumes nothing.
 use mathlib.Core.Path.{_≡_, refl, sym, ap, ap₂, _∙_}
@@ -177,13 +177,3 @@ read-writes card room bytes h fits =
     let is = only-card card bytes h in
     let meant : Meant (length (saltOf card)) (length (keyOf card)) (x .exponent) (x .r) (x .p) = rw (length-salt card, length-key card) (accepted-meant card h) in
     write-good (record { meant = meant; fits = rw (← is) fits }) ∙ rw (← is)
-
--- ---- cards one behind the other
-
--- an accepted card says how long it is, whatever it stands behind
-pub claimed-is : (front card : List ℕ) → readOf card .refusal ≡ 0 → claimedOf (front ++ card) ≡ length card
-unfolding claimedOf
-claimed-is front card h =
-    let a = accepted-means card h in
-    let long : trailerLength first ≤ length (front ++ card) = omega (arith, a .room, length-append front card) in
-    rw (le-leb _ _ long, trailer-behind first front card (a .room)) (a .judged .long)

@@ -7,7 +7,7 @@ ghost use lib.ListN.{length, getD};
 ghost use lib.Seq.{sets};
 ghost use Rattle.lent.specs.Bytes.{part};
 ghost use Rattle.lent.specs.Word.{le, ofLe};
-ghost use Rattle.card.specs.Layout.{first, trailerBytes, trailerSaying, cardBytes, endsIn, claimedOf};
+ghost use Rattle.card.specs.Layout.{first, trailerLength, trailerBytes, trailerSaying, cardBytes, endsIn, claimedOf};
 ghost use Rattle.card.specs.Refusals.{fromTo, okLengths, meantOf, readAs, readOf, saltOf, keyOf, writeOf};
 ghost use Rattle.card.specs.Paper.{paper, paperWritten, lengthsOf};
 use cost::Checked;
@@ -134,7 +134,7 @@ fn ends_in(card: &[u8], mark: &[u8]) -> bool
 
 // 23 to 25, for a card whose trailer begins at place at.
 fn judge(card: &[u8], at: usize) -> Card
-    requires { ⌜ at + 12 ≡ length (now card) ⌝ }
+    requires { ⌜ at + trailerLength first ≡ length (now card) ⌝ }
     ensures { λ x. ⌜ paper x ≡ readAs first (now (card .entry)) ⌝ }
 {
     if byte(card, at + 4) != EDITION {
@@ -228,7 +228,7 @@ fn put_distance(s: &mut [u8], at: usize, x: usize)
 
 // Writes the trailer at place at, for a key of that length.
 fn put_trailer(room: &mut [u8], at: usize, key: usize, exponent: u8, r: u8, p: u8)
-    requires { ⌜ at + 12 ≤ length (now room) ⌝ }
+    requires { ⌜ at + trailerLength first ≤ length (now room) ⌝ }
     ensures { λ _. ⌜ now (room .exit) ≡ sets (now (room .entry)) at (trailerBytes first (trailerSaying first [] at key exponent r p)) ⌝ }
 {
     put_distance(room, at, at);
@@ -240,7 +240,7 @@ fn put_trailer(room: &mut [u8], at: usize, key: usize, exponent: u8, r: u8, p: u
 
 // Writes the card over the front of the room.
 fn put_card(salt: &[u8], key: &[u8], exponent: u8, r: u8, p: u8, room: &mut [u8])
-    requires { ⌜ length (now salt) + length (now key) + 12 ≤ length (now room) ⌝ }
+    requires { ⌜ length (now salt) + length (now key) + trailerLength first ≤ length (now room) ⌝ }
     ensures { λ _. ⌜ now (room .exit) ≡ sets (now (room .entry)) 0 (cardBytes first [] (now (salt .entry)) (now (key .entry)) exponent r p) ⌝ }
 {
     let at = salt.len() + key.len();

@@ -7,15 +7,15 @@ use borrow.Author.Needs.{needs}
 use borrow.Author.Tests.{eq-eqb, ne-eqb, lt-leb}
 use native.Mathlib.Omega.{arith}
 use lib.ListN.{length}
-use Rattle.card.specs.Layout.{first, trailerIn}
+use Rattle.card.specs.Layout.{first, trailerLength, trailerIn}
 use Rattle.card.specs.Refusals.{judged, meantOf, readAs}
 use Rattle.card.proofs.Cards.{lengths-none}
 use Rattle.card.proofs.judge.Statement.{statement}
 use Rattle.card.proofs.judge.Tie as tie
 
 -- the trailer at the end is the one at place `at`
-trailer-is : (card : List ℕ) (at : ℕ) → at + 12 ≡ length card → readAs first card ≡ judged first (at + 12) (trailerIn first at card)
-trailer-is card at h = let e : length card - 12 ≡ at = omega arith in rw (e, h)
+trailer-is : (card : List ℕ) (at : ℕ) → at + trailerLength first ≡ length card → readAs first card ≡ judged first (at + trailerLength first) (trailerIn first at card)
+trailer-is card at h = let e : length card - trailerLength first ≡ at = omega arith in rw (e, h)
 
 returns : tie.Need-returns
 unfolding judged trailerIn
@@ -27,7 +27,7 @@ returns-2 : tie.Need-returns-2
 unfolding judged trailerIn
 returns-2 c =
     let a = c .before .before .before .before .before .before in
-    let far : c .before .before .distance .result + 12 ≡ a .args .at + 12 → ⊥ = λ k. c .if2 .taken (omega arith) in
+    let far : c .before .before .distance .result + trailerLength first ≡ a .args .at + trailerLength first → ⊥ = λ k. c .if2 .taken (omega arith) in
     rw (trailer-is (a .args .card .now) (a .args .at) (a .pre), ← c .before .before .before .before .byte .ensures .0, eq-eqb _ _ (c .before .before .before .if1 .left), ← c .before .before .distance .ensures .0, ne-eqb _ _ far)
 
 returns-3 : tie.Need-returns-3
@@ -36,7 +36,7 @@ returns-3 c =
     let a = c .before .before .before .before .before .before .before in
     let back = c .before .before .before .distance .result in
     let key = c .before .before .distance2 .result in
-    let near : back + 12 ≡ a .args .at + 12 = omega (arith, c .before .if2 .left) in
+    let near : back + trailerLength first ≡ a .args .at + trailerLength first = omega (arith, c .before .if2 .left) in
     rw (trailer-is (a .args .card .now) (a .args .at) (a .pre), ← c .before .before .before .before .before .byte .ensures .0, eq-eqb _ _ (c .before .before .before .before .if1 .left), ← c .before .before .before .distance .ensures .0, ← c .before .before .distance2 .ensures .0, eq-eqb _ _ near, lengths-none (back - key) key (omega arith))
 
 returns-4 : tie.Need-returns-4
@@ -44,7 +44,7 @@ unfolding judged trailerIn
 returns-4 c =
     let told = c .before .before .before .before .before .before .before in
     let a = told .before .before .before .before .before in
-    let near : told .before .distance .result + 12 ≡ a .args .at + 12 = omega (arith, c .before .before .before .before .before .before .if2 .left) in
+    let near : told .before .distance .result + trailerLength first ≡ a .args .at + trailerLength first = omega (arith, c .before .before .before .before .before .before .if2 .left) in
     rw (trailer-is (a .args .card .now) (a .args .at) (a .pre), ← told .before .before .before .byte .ensures .0, eq-eqb _ _ (told .before .before .if1 .left), ← told .before .distance .ensures .0, ← told .distance2 .ensures .0, eq-eqb _ _ near, ← c .before .before .before .before .byte2 .ensures .0, ← c .before .before .byte3 .ensures .0, ← c .before .byte4 .ensures .0, ← c .before .before .before .new .ensures) (c .meant .ensures)
 
 pub judge-spec : {M : Type 1} → statement M
