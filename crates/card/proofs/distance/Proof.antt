@@ -1,6 +1,5 @@
 -- `card::distance` meets its contract: the two bytes are read one by one.
 -- Assumes nothing.
-use mathlib.Core.Path.{_≡_}
 use borrow.Author.Needs.{needs}
 use native.Mathlib.Omega.{arith}
 use Rattle.lent.specs.Word.{ofLe}

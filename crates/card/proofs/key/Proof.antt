@@ -7,7 +7,7 @@ use native.Mathlib.Omega.{arith}
 use lib.ListN.{length}
 use Rattle.lent.specs.Bytes.{part}
 use Rattle.card.specs.declared.Split.{Split}
-use Rattle.card.specs.Refusals.{readOf, keyOf}
+use Rattle.card.specs.Refusals.{keyOf}
 use Rattle.card.proofs.Meanings.{within}
 use Rattle.card.proofs.key.Statement.{statement}
 use Rattle.card.proofs.key.Tie as tie

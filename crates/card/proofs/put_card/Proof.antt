@@ -1,6 +1,5 @@
 -- `card::put_card` meets its contract: salt, key and trailer, each behind the last.
 -- Assumes nothing.
-use mathlib.Core.Path.{_≡_, _∙_}
 use borrow.Author.Needs.{needs}
 use Rattle.card.proofs.Pieces.{card-laid}
 use Rattle.card.proofs.put_card.Statement.{statement}

@@ -1,6 +1,5 @@
 -- `card::put_trailer` meets its contract: four pieces, each behind the last.
 -- Assumes nothing.
-use mathlib.Core.Path.{_≡_, _∙_}
 use borrow.Author.Needs.{needs}
 use Rattle.card.proofs.Pieces.{trailer-laid}
 use Rattle.card.proofs.put_trailer.Statement.{statement}

@@ -1,11 +1,11 @@
 -- `card::salt` meets its contract: both lengths together lie within the card.
 -- Assumes nothing.
-use mathlib.Core.Path.{_≡_, ap}
-use Prim.Native.Nat.{_-_}
+use mathlib.Core.Path.{ap}
+use native.Mathlib.Nat.{sub-zero}
 use borrow.Author.Needs.{needs}
 use native.Mathlib.Omega.{arith}
 use Rattle.card.specs.declared.Split.{Split}
-use Rattle.card.specs.Refusals.{readOf, saltOf}
+use Rattle.card.specs.Refusals.{saltOf}
 use Rattle.card.proofs.Meanings.{within}
 use Rattle.card.proofs.salt.Statement.{statement}
 use Rattle.card.proofs.salt.Tie as tie
@@ -18,9 +18,7 @@ part-result-end c =
 
 returns : tie.Need-returns
 unfolding saltOf
-returns c =
-    let long : c .before .lengths .result .salt - 0 ≡ readOf (c .before .before .before .args .card .now) .salt = omega (arith, ap (λ (s : Split). s .salt) (c .before .lengths .ensures)) in
-    rw long
+returns c = rw (sub-zero, c .before .lengths .ensures)
 
 pub salt-spec : {M : Type 1} → statement M
 salt-spec = tie.close (tie.spec (λ c κs. search needs) (λ c. search needs) (λ c. search needs) part-result-end returns)

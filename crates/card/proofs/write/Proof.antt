@@ -1,15 +1,15 @@
 -- `card::write` meets its contract: what 24 and 25 say of the numbers, then a test of the room.
 -- Assumes nothing.
-use mathlib.Core.Path.{_≡_, refl, sym, ap, _∙_}
-use mathlib.Core.List.{List, []}
-use Prim.Native.Nat.{ℕ, _+_, _≤_}
+use mathlib.Core.Path.{refl, sym, ap, _∙_}
+use mathlib.Core.List.{[]}
+use Prim.Native.Nat.{_≤_}
 use borrow.Author.Needs.{needs}
 use borrow.Author.Tests.{lt-leb}
 use native.Mathlib.Omega.{arith}
 use lib.ListN.{length}
 use Rattle.card.specs.declared.Card.{Card}
 use Rattle.card.specs.Layout.{first, cardBytes}
-use Rattle.card.specs.Refusals.{Reading, Writing, writeOf}
+use Rattle.card.specs.Refusals.{Reading, writeOf}
 use Rattle.card.specs.Paper.{paper}
 use Rattle.card.proofs.Costing.{Priced, priced}
 use Rattle.card.proofs.Cards.{Meant, meant-good, meant-means, lengths-mean, length-card}

@@ -5,7 +5,6 @@ use Prim.Native.Nat.{ℕ, _≤_}
 use borrow.Author.Needs.{needs}
 use borrow.Author.Tests.{eq-eqb, ne-eqb}
 use native.Mathlib.Omega.{arith}
-use lib.ListN.{length}
 use Rattle.text.specs.Login.{lastBelow, colonPlace}
 use Rattle.text.proofs.Places.{last-none, last-step}
 use Rattle.text.proofs.colon.Statement.{statement}

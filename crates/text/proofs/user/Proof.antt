@@ -1,11 +1,11 @@
 -- `text::user` meets its contract: its length lies within the text.
 -- Assumes nothing.
-use mathlib.Core.Path.{_≡_, ap}
+use mathlib.Core.Path.{ap}
 use borrow.Author.Needs.{needs}
 use native.Mathlib.Omega.{arith}
-use Prim.Native.Nat.{_-_}
+use native.Mathlib.Nat.{sub-zero}
 use Rattle.text.specs.declared.Split.{Split}
-use Rattle.text.specs.Login.{readOf, userOf}
+use Rattle.text.specs.Login.{userOf}
 use Rattle.text.proofs.Splits.{within}
 use Rattle.text.proofs.user.Statement.{statement}
 use Rattle.text.proofs.user.Tie as tie
@@ -18,9 +18,7 @@ part-result-end c =
 
 returns : tie.Need-returns
 unfolding userOf
-returns c =
-    let long : c .before .lengths .result .user - 0 ≡ readOf (c .before .before .before .args .text .now) .user = omega (arith, ap (λ (s : Split). s .user) (c .before .lengths .ensures)) in
-    rw long
+returns c = rw (sub-zero, c .before .lengths .ensures)
 
 pub user-spec : {M : Type 1} → statement M
 user-spec = tie.close (tie.spec (λ c κs. search needs) (λ c. search needs) (λ c. search needs) part-result-end returns)
