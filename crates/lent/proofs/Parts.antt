@@ -23,6 +23,10 @@ module _ {A : Type 0} where
   pub part-all : (l : List A) → part 0 (length l) l ≡ l
   part-all l = take-all (length l) l (omega arith)
 
+  -- a part to the end: what `&l[at..]` lends
+  pub part-rest : (at : ℕ) (l : List A) → part at (length l - at) l ≡ drop at l
+  part-rest at l = take-all (length l - at) (drop at l) (simp length-drop (omega arith))
+
   part-take : (a n m : ℕ) (l : List A) → a + n ≤ m → part a n (take m l) ≡ part a n l
   part-take zero n m l h = take-take n m l (omega arith)
   part-take (suc a) n zero l h = absurd (omega arith)
@@ -36,10 +40,6 @@ module _ {A : Type 0} where
   -- a part in two pieces
   pub part-add : (at n m : ℕ) (l : List A) → part at (n + m) l ≡ part at n l ++ part (at + n) m l
   part-add at n m l = take-add n m (drop at l) ∙ ap (λ (t : List A). part at n l ++ take m t) (drop-drop n at l)
-
-  -- a part that goes to the end
-  pub part-rest : (at : ℕ) (l : List A) → part at (length l - at) l ≡ drop at l
-  part-rest at l = take-all (length l - at) (drop at l) (simp length-drop (omega arith))
 
   -- a part of the first of two lists, and one of the second
   pub part-front : (at n : ℕ) (xs ys : List A) → at + n ≤ length xs → part at n (xs ++ ys) ≡ part at n xs

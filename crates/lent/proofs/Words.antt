@@ -60,7 +60,13 @@ be-split m (suc n) x =
     let above : x / (256 ^ n * 256) ≡ x / 256 / 256 ^ n = ap (λ (k : ℕ). x / k) (mul-comm (256 ^ n) 256) ∙ sym (div-div-eq-div-mul x 256 (256 ^ n)) in
     rw (add-suc, pow-suc 256 n, digits, high, low, above, be-split m n (x / 256), append-assoc)
 
--- four bytes, one by one
+-- two bytes, and four, one by one
+pub part-two : (l : List ℕ) (at : ℕ) → at + 2 ≤ length l → part at 2 l ≡ getD l at 0 ∷ getD l (at + 1) 0 ∷ []
+unfolding tab
+part-two l at h =
+    let room : 2 ≤ length (drop at l) = simp length-drop (omega arith) in
+    sym (tab-part at 2 l 0 room) ∙ ap (λ (k : ℕ). getD l k 0 ∷ getD l (at + 1) 0 ∷ []) (add-zero at)
+
 pub part-four : (l : List ℕ) (at : ℕ) → at + 4 ≤ length l → part at 4 l ≡ getD l at 0 ∷ getD l (at + 1) 0 ∷ getD l (at + 2) 0 ∷ getD l (at + 3) 0 ∷ []
 unfolding tab
 part-four l at h =

@@ -1,0 +1,2 @@
+pub mod Login
+pub mod Paper
