@@ -51,24 +51,21 @@ paper (Refused desk) = deskTold desk
 abbrev pub costOn : List ℕ → Cost
 costOn card = let x = Cards.readOf card in record { n = record { 0 = 2 ^ x .exponent }; r = x .r; p = x .p }
 
--- RFC 7914's key for that password with the card's salt, costs and key length
-abbrev pub keyFor : List ℕ → List ℕ → List ℕ
-keyFor password card =
-    let x = Cards.readOf card in
-    scrypt password (Cards.saltOf card) (2 ^ x .exponent) (x .r) (x .p) (x .key)
+-- P the password, S and K the salt and the key on the card, n the key's length: yes exactly when RFC 7914's key is K
+abbrev pub compared : List ℕ → List ℕ → List ℕ → Cost → ℕ → List ℕ → Plan → Told × List ℕ
+compared P S K c n scratch (Go k w) = (pick (eqs (scrypt P S (c .n .0) (c .r) (c .p) n) K) yea nay, zeros (length scratch))
+compared P S K c n scratch (No why) = (refusedBy 3 (Derive.reasonNo why), scratch)
 
--- yes exactly when it equals the key on the card
-abbrev pub compared : List ℕ → List ℕ → List ℕ → Plan → Told × List ℕ
-compared password card scratch (Go k w) = (pick (eqs (keyFor password card) (Cards.keyOf card)) yea nay, zeros (length scratch))
-compared password card scratch (No why) = (refusedBy 3 (Derive.reasonNo why), scratch)
+unfoldable pub weighed : List ℕ → List ℕ → List ℕ → Cost → ℕ → List ℕ → ℕ → Told × List ℕ
+weighed P S K c n scratch allowance = compared P S K c n scratch (planOf (length P) (length S) n (length scratch) allowance c)
 
 unfoldable pub loginOf : List ℕ → List ℕ → List ℕ → ℕ → Told × List ℕ
+unfolding weighed
 loginOf text card scratch allowance =
     let x = Cards.readOf card in
     let y = Texts.readOf text in
-    let password = Texts.passwordOf text in
     pick (eqb (x .refusal) 0)
     (pick (eqb (y .refusal) 0)
-    (compared password card scratch (planOf (length password) (length (Cards.saltOf card)) (x .key) (length scratch) allowance (costOn card)))
+    (weighed (Texts.passwordOf text) (Cards.saltOf card) (Cards.keyOf card) (costOn card) (x .key) scratch allowance)
     (refusedBy 2 (y .refusal), scratch))
     (refusedBy 1 (x .refusal), scratch)
