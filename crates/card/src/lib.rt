@@ -9,7 +9,7 @@ ghost use Rattle.lent.specs.Bytes.{part};
 ghost use Rattle.lent.specs.Word.{le, ofLe};
 ghost use Rattle.card.specs.Layout.{first, trailerLength, trailerBytes, trailerSaying, cardBytes, endsIn, claimedOf};
 ghost use Rattle.card.specs.Refusals.{fromTo, okLengths, meantOf, readAs, readOf, saltOf, keyOf, writeOf};
-ghost use Rattle.card.specs.Paper.{paper, paperWritten, lengthsOf};
+ghost use Rattle.card.specs.Paper.{reasonNo, paper, paperWritten, lengthsOf};
 use cost::Checked;
 use cost::Cost;
 use cost::Exponent;
@@ -270,5 +270,19 @@ pub fn write(
             put_card(salt, key, exponent.number() as u8, r as u8, p as u8, room);
             Written::Length(n)
         }
+    }
+}
+
+// The paper's number of a reason.
+pub fn reason_number(why: Reason) -> u64
+    ensures { λ n. ⌜ n ≡ reasonNo why ⌝ }
+{
+    match why {
+        Reason::Short => 21,
+        Reason::Unmarked => 22,
+        Reason::OtherEdition => 23,
+        Reason::Lengths => 24,
+        Reason::Costs => 25,
+        Reason::Room => 26,
     }
 }

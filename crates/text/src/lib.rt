@@ -1,7 +1,7 @@
 // The login text, `user:password`: where it parts, and when it is refused.
 ghost use mathlib.Core.Path.{_≡_};
 ghost use Rattle.text.specs.Login.{colonPlace, readOf, userOf, passwordOf};
-ghost use Rattle.text.specs.Paper.{paper, lengthsOf};
+ghost use Rattle.text.specs.Paper.{reasonNo, paper, lengthsOf};
 
 const COLON: u8 = b':';
 
@@ -89,4 +89,14 @@ pub fn password(text: &[u8]) -> &[u8]
     let n = lengths(text).password;
     let at = text.len() - n;
     &text[at..]
+}
+
+// The paper's number of a reason.
+pub fn reason_number(why: Reason) -> u64
+    ensures { λ n. ⌜ n ≡ reasonNo why ⌝ }
+{
+    match why {
+        Reason::NoColon => 31,
+        Reason::UserLength => 32,
+    }
 }
