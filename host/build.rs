@@ -3,7 +3,7 @@
 //! `RINNAMOYLE_LIB_DIR` names a folder with a ready `librinnamoyle.a` instead.
 
 use std::path::{Path, PathBuf};
-use std::process::Command;
+use std::process::{self, Command};
 use std::{env, fs};
 
 const ARCHIVE: &str = "librinnamoyle.a";
@@ -26,10 +26,18 @@ fn folder(name: &str) -> PathBuf {
     PathBuf::from(env::var_os(name).expect("cargo sets it"))
 }
 
+/// Ends the build with a word that is not a backtrace.
+fn stop(words: &str) -> ! {
+    eprintln!("\n{words}\n");
+    process::exit(1)
+}
+
 fn ready(folder: PathBuf) -> PathBuf {
     let archive = folder.join(ARCHIVE);
     println!("cargo:rerun-if-changed={}", archive.display());
-    assert!(archive.is_file(), "RINNAMOYLE_LIB_DIR is set, and {} is no file", archive.display());
+    if !archive.is_file() {
+        stop(&format!("RINNAMOYLE_LIB_DIR is set, and {} is no file", archive.display()));
+    }
     archive
 }
 
@@ -38,19 +46,19 @@ fn proved(root: PathBuf) -> PathBuf {
         println!("cargo:rerun-if-changed={}", root.join(source).display());
     }
     let told = Command::new("rt").args(["staticlib", "rinnamoyle"]).current_dir(&root).output();
-    let told = told.unwrap_or_else(|e| {
-        panic!(
-            "`rt` did not start ({e}): the library is proved and built by the Rattle kit. Put its `rt` on PATH, \
+    match told {
+        Err(trouble) => stop(&format!(
+            "`rt` did not start ({trouble}): the library is proved and built by the Rattle kit. Put its `rt` on PATH, \
              or name a folder with a ready {ARCHIVE} in RINNAMOYLE_LIB_DIR"
-        )
-    });
-    assert!(
-        told.status.success(),
-        "`rt staticlib rinnamoyle` failed ({}):\n{}{}",
-        told.status,
-        String::from_utf8_lossy(&told.stdout),
-        String::from_utf8_lossy(&told.stderr)
-    );
+        )),
+        Ok(told) if !told.status.success() => stop(&format!(
+            "`rt staticlib rinnamoyle` failed ({}):\n{}{}",
+            told.status,
+            String::from_utf8_lossy(&told.stdout),
+            String::from_utf8_lossy(&told.stderr)
+        )),
+        Ok(_) => {}
+    }
     root.join("target/staticlib").join(ARCHIVE)
 }
 
@@ -58,7 +66,9 @@ fn proved(root: PathBuf) -> PathBuf {
 fn link(made: &Path) {
     let out = folder("OUT_DIR");
     let copy = out.join(ARCHIVE);
-    fs::copy(made, &copy).unwrap_or_else(|e| panic!("{} cannot be copied: {e}", made.display()));
+    if let Err(trouble) = fs::copy(made, &copy) {
+        stop(&format!("{} cannot be copied: {trouble}", made.display()));
+    }
     println!("cargo:rustc-link-search=native={}", out.display());
     println!("cargo:rustc-link-lib=static=rinnamoyle");
     println!("cargo:rustc-env=RINNAMOYLE_ARCHIVE={}", copy.display());

@@ -8,8 +8,8 @@ pub fn login(text: &[u8], card: &[u8], scratch: usize, allowance: u64) -> Result
     let card = card::read(card).map_err(|number| (1, number))?;
     let (_, password) = text::read(text).map_err(|number| (2, number))?;
     let costs = [1 << card.exponent, card.r, card.p];
-    let lengths = (password.len(), card.salt.len(), card.key.len());
-    let asked = Asked { pass: lengths.0, salt: lengths.1, key: lengths.2, costs, scratch, allowance };
+    let [pass, salt, key] = [password, &card.salt, &card.key].map(<[u8]>::len);
+    let asked = Asked { pass, salt, key, costs, scratch, allowance };
     plan(&asked).map_err(|number| (3, number))?;
-    Ok(scrypt::scrypt(password, &card.salt, costs, card.key.len()).0 == card.key)
+    Ok(scrypt::scrypt(password, &card.salt, costs, key).0 == card.key)
 }

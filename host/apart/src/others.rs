@@ -16,6 +16,8 @@ type Plain = unsafe extern "C" fn(*const u8, usize, *const u8, usize, u64, u32, 
 /// Passphrase, salt, N, r, p, the most memory, key.
 type Openssl = unsafe extern "C" fn(*const u8, usize, *const u8, usize, u64, u64, u64, u64, *mut u8, usize) -> c_int;
 
+type Start = unsafe extern "C" fn() -> c_int;
+
 #[derive(Clone, Copy)]
 enum Call {
     Plain(Plain),
@@ -28,6 +30,8 @@ struct Known {
     package: &'static str,
     files: &'static [&'static CStr],
     symbols: &'static [&'static CStr],
+    /// To be called once before, so that it looks at what the processor can do.
+    start: Option<&'static CStr>,
     openssl: bool,
 }
 
@@ -37,6 +41,7 @@ const KNOWN: [Known; 4] = [
         package: "libssl3",
         files: &[c"libcrypto.so.3", c"libcrypto.so.1.1"],
         symbols: &[c"EVP_PBE_scrypt"],
+        start: None,
         openssl: true,
     },
     Known {
@@ -44,6 +49,7 @@ const KNOWN: [Known; 4] = [
         package: "libsodium23",
         files: &[c"libsodium.so.23", c"libsodium.so.26"],
         symbols: &[c"crypto_pwhash_scryptsalsa208sha256_ll"],
+        start: Some(c"sodium_init"),
         openssl: false,
     },
     Known {
@@ -51,6 +57,7 @@ const KNOWN: [Known; 4] = [
         package: "libscrypt-kdf1",
         files: &[c"libscrypt-kdf.so.1"],
         symbols: &[c"scrypt_kdf", c"crypto_scrypt"],
+        start: None,
         openssl: false,
     },
     Known {
@@ -58,6 +65,7 @@ const KNOWN: [Known; 4] = [
         package: "libscrypt0",
         files: &[c"libscrypt.so.0"],
         symbols: &[c"libscrypt_scrypt"],
+        start: None,
         openssl: false,
     },
 ];
@@ -79,6 +87,9 @@ fn found(known: &Known) -> Option<Other> {
     // SAFETY: a system library's own start-up code runs; each symbol has the type that its manual gives.
     let call = unsafe {
         let library = known.files.iter().map(|file| dlopen(file.as_ptr(), NOW)).find(|found| !found.is_null())?;
+        if let Some(start) = known.start {
+            mem::transmute::<*mut c_void, Option<Start>>(dlsym(library, start.as_ptr()))?();
+        }
         let symbol = known.symbols.iter().map(|name| dlsym(library, name.as_ptr())).find(|found| !found.is_null())?;
         if known.openssl {
             Call::Openssl(mem::transmute::<*mut c_void, Openssl>(symbol))

@@ -87,6 +87,11 @@ pub fn scrypt_in(
     pbkdf2(pass, &lanes, key);
 }
 
+/// The same with nobody told, compiled here and with this crate's flags: what the benchmark measures.
+pub fn scrypt_quiet(pass: &[u8], salt: &[u8], costs: [u64; 3], key: &mut [u8], room: &mut [u32]) {
+    scrypt_in(pass, salt, costs, key, room, |_| ())
+}
+
 /// The key, and every place j that its lanes looked up, in order.
 pub fn scrypt(pass: &[u8], salt: &[u8], [n, r, p]: [u64; 3], length: usize) -> (Vec<u8>, Vec<u64>) {
     let mut key = vec![0; length];

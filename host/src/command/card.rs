@@ -52,7 +52,7 @@ fn salt(options: &Options) -> Result<Vec<u8>, String> {
 
 /// A password that some login can bring: one that the text desk would cut would open no card.
 fn password() -> Result<Vec<u8>, String> {
-    let password = input::secret("password (not shown): ")?;
+    let password = input::new_secret("password (not shown): ")?;
     let text = [b"user:", &password[..]].concat();
     match read_text(&text) {
         Ok(parts) if parts.password == password => Ok(password),

@@ -49,19 +49,25 @@ const JOBS: [Job; 4] = [
 
 /// Does what the words say.
 pub fn run(words: &[OsString]) -> Result<Said, String> {
-    if words.first().is_some_and(|word| word == "--help" || word == "-h" || word == "help") {
-        return Ok(Said::well(help::ALL));
-    }
-    let job = JOBS.iter().find(|job| words.iter().zip(job.words).filter(|(a, b)| a == b).count() == job.words.len());
+    let job = JOBS.iter().find(|job| job.is_named_by(words));
     match job {
         Some(job) => job.done(&words[job.words.len()..]),
+        None if asks_for_help(words) || words.first().is_some_and(|word| word == "help") => Ok(Said::well(help::ALL)),
         None => Err(format!("{}\n{}", unknown(words), hint("--help"))),
     }
 }
 
+fn asks_for_help(words: &[OsString]) -> bool {
+    words.iter().any(|word| word == "--help" || word == "-h")
+}
+
 impl Job {
+    fn is_named_by(&self, words: &[OsString]) -> bool {
+        words.len() >= self.words.len() && words.iter().zip(self.words).all(|(given, own)| given == own)
+    }
+
     fn done(&self, words: &[OsString]) -> Result<Said, String> {
-        if words.iter().any(|word| word == "--help" || word == "-h") {
+        if asks_for_help(words) {
             return Ok(Said::well(self.help));
         }
         let said = Options::sorted(words, self.known).and_then(|options| (self.run)(&options));

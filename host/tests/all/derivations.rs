@@ -5,33 +5,32 @@ use crate::tally::Tally;
 use crate::{case, Said, Test};
 use apart::random::Random;
 use apart::rules::{plan, KEY_MOST, N_MOST, PASS_MOST, P_MOST, R_MOST, SALT_MOST};
-use rinnamoyle::Cost;
+use rinnamoyle::{ffi, Cost};
 use std::thread;
 
 pub const TESTS: &[Test] = &[
     ("every set of faults at once", sets_of_faults),
     ("one input at its limits", limits),
     ("scratch and allowance at every spacing", spacings),
+    ("more scratch, fewer mixings, the same key", falling),
     ("random derivations", many),
     ("shorter keys, and a zero byte added", related_keys),
     ("the wrapper's plan", wrapper_plans),
     ("a stack of 64 KiB", small_stack),
 ];
 
-fn tried(asked: &Derivation, random: &mut Random) -> Result<(Vec<u8>, rinnamoyle::ffi::Derived), u64> {
+fn tried(asked: &Derivation, random: &mut Random) -> Result<(Vec<u8>, ffi::Derived), u64> {
     case(|| format!("{asked:?}"), || derive(asked, random))
 }
 
 /// An accepted derivation on a scratch for a spacing.
 fn good(costs: [u64; 3], spacing: u64) -> Derivation {
-    let [n, r, p] = costs;
-    let scratch = needed(costs, spacing);
     Derivation {
         pass: b"open sesame".to_vec(),
         salt: b"Rinnamoyle".to_vec(),
-        costs: [n, r, p],
+        costs,
         key: 32,
-        scratch,
+        scratch: needed(costs, spacing),
         allowance: worst(costs, spacing),
     }
 }
@@ -139,7 +138,6 @@ fn spacings(random: &mut Random) -> Said {
             let exact = good(costs, spacing);
             let block = 128 * costs[1] as usize;
             for scratch in [exact.scratch - 1, exact.scratch, exact.scratch + 1, exact.scratch + block - 1] {
-                // The allowance of this spacing is one too small for the next, unless it is 8 that is given.
                 for allowance in [exact.allowance - 1, exact.allowance, 2 * exact.allowance] {
                     tally.count(tried(&Derivation { scratch, allowance, ..exact.clone() }, random));
                 }
@@ -152,6 +150,22 @@ fn spacings(random: &mut Random) -> Said {
 
 fn powers(n: u64) -> impl Iterator<Item = u64> {
     (0..=n.ilog2()).map(|e| 1 << e)
+}
+
+/// More scratch never costs more mixings, and never changes the key.
+fn falling(random: &mut Random) -> Said {
+    let mut tried_spacings = 0;
+    for costs in [[256, 1, 1], [64, 2, 3], [1024, 1, 2]] {
+        let pass = random.bytes(20);
+        let at = |spacing, random: &mut Random| {
+            let asked = Derivation { pass: pass.clone(), ..good(costs, spacing) };
+            tried(&asked, random).map(|(key, told)| (key, told.mixings)).expect("accepted")
+        };
+        let all: Vec<_> = powers(costs[0]).map(|spacing| at(spacing, random)).collect();
+        assert!(all.is_sorted_by(|(key, mixings), (other, more)| key == other && mixings <= more), "{costs:?}");
+        tried_spacings += all.len();
+    }
+    Said::Tried(format!("{tried_spacings} spacings"))
 }
 
 fn many(random: &mut Random) -> Said {
@@ -177,15 +191,14 @@ fn any_derivation(random: &mut Random) -> Derivation {
     let like = [costs[0].clamp(2, 64), costs[1].clamp(1, R_MOST), costs[2].clamp(1, P_MOST)];
     let powers: Vec<u64> = powers(like[0]).collect();
     let spacing = random.one_of(&powers);
-    let scratch = needed(like, spacing) + 128 * like[1] as usize * random.index(3);
+    let (needed, worst) = (needed(like, spacing), worst(like, spacing));
     Derivation {
         pass: any_bytes(random, PASS_MOST),
         salt: any_bytes(random, SALT_MOST),
         costs,
         key: if random.once_in(12) { random.length(&[0, KEY_MOST]) } else { 1 + random.index(100) },
-        scratch: (scratch + 1).saturating_sub(random.one_of(&[0, 1, 2, 128, scratch])),
-        allowance: random.one_of(&[worst(like, spacing), 2 * worst(like, spacing), 0, u64::MAX, u64::MAX])
-            - random.within(0..=1).min(worst(like, spacing) % 2),
+        scratch: random.one_of(&[needed, needed, needed, needed - 1, needed + 1, 2 * needed, 0]),
+        allowance: random.one_of(&[u64::MAX, u64::MAX, worst, worst, worst - 1, 2 * worst, 0]),
     }
 }
 
@@ -196,7 +209,7 @@ fn any_bytes(random: &mut Random, most: usize) -> Vec<u8> {
 
 fn any_n(random: &mut Random) -> u64 {
     match random.index(12) {
-        0 => random.next() >> random.index(64),
+        0 => random.word() >> random.index(64),
         1 => 1 << random.index(64),
         _ => 2 << random.index(6),
     }
@@ -247,7 +260,7 @@ fn small_stack(random: &mut Random) -> Said {
     let card = apart::card::Card { exponent: 6, r: 32, p: 2, salt: asked.salt.clone(), key: random.bytes(64) };
     let card = apart::card::write(&card, 256).expect("a good card");
     let on_it = move || {
-        let told = rinnamoyle::ffi::derive(&asked.pass, &asked.salt, asked.costs, &mut key, &mut scratch, u64::MAX);
+        let told = ffi::derive(&asked.pass, &asked.salt, asked.costs, &mut key, &mut scratch, u64::MAX);
         let answer = rinnamoyle::login(b"user:password", &card, &mut scratch, u64::MAX);
         let mut room = [0; 256];
         let read = rinnamoyle::read_card(&card).expect("a good card");

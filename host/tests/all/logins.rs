@@ -60,13 +60,27 @@ fn tried(asked: &Login, scratch: usize, random: &mut Random) -> Answer {
     case(|| format!("{asked:?}, scratch {scratch}"), || login(asked, scratch, random))
 }
 
-/// A card with small costs that this password opens.
-fn card_for(password: &[u8], random: &mut Random) -> Card {
-    let [exponent, r, p] = [random.within(1..=5), random.within(1..=2), random.within(1..=2)];
+/// What small costs need at every spacing; a damaged card that asks for more is refused.
+const ENOUGH: u64 = 20_000;
+
+/// A card that this password opens.
+fn card_for(password: &[u8], [exponent, r, p]: [u64; 3], random: &mut Random) -> Card {
     let (salt, length) = (8 + random.index(57), 16 + random.index(49));
     let salt = random.bytes(salt);
     let key = scrypt::scrypt(password, &salt, [1 << exponent, r, p], length).0;
     Card { exponent, r, p, salt, key }
+}
+
+/// A login that says yes, if the scratch allows.
+fn opened(costs: [u64; 3], random: &mut Random) -> Login {
+    let password = any_password(random);
+    let card = bytes_of(&card_for(&password, costs, random));
+    let user_length = 1 + random.index(64);
+    Login { text: [&random.bytes(user_length), &b":"[..], &password].concat(), card, allowance: ENOUGH }
+}
+
+fn small_costs(random: &mut Random) -> [u64; 3] {
+    [random.within(1..=5), random.within(1..=2), random.within(1..=2)]
 }
 
 fn bytes_of(card: &Card) -> Vec<u8> {
@@ -80,16 +94,16 @@ fn any_password(random: &mut Random) -> Vec<u8> {
 
 /// A login that mostly gets as far as yes or no.
 fn any_login(random: &mut Random) -> Login {
-    let password = any_password(random);
-    let mut card = bytes_of(&card_for(&password, random));
-    let user_length = if random.once_in(15) { random.length(&[0, 64]) } else { 1 + random.index(64) };
-    let user = random.bytes(user_length);
-    let mut text = [&user[..], b":", &password].concat();
-    for damaged in [&mut text, &mut card] {
-        damage(damaged, random);
+    let costs = small_costs(random);
+    let mut asked = opened(costs, random);
+    if random.once_in(15) {
+        let length = random.length(&[0, 64]);
+        asked.text.splice(..0, random.bytes(length));
     }
-    let allowance = random.one_of(&[u64::MAX, u64::MAX, 4096, 200, 60]);
-    Login { text, card, allowance }
+    damage(&mut asked.text, random);
+    damage(&mut asked.card, random);
+    asked.allowance = random.one_of(&[ENOUGH, ENOUGH, 4096, 200, 60]);
+    asked
 }
 
 fn damage(bytes: &mut Vec<u8>, random: &mut Random) {
@@ -100,7 +114,7 @@ fn damage(bytes: &mut Vec<u8>, random: &mut Random) {
         }
         1 => {
             let near_the_end = bytes.len() - 1 - random.index(bytes.len().min(12));
-            bytes[near_the_end] = random.next() as u8;
+            bytes[near_the_end] = random.word() as u8;
         }
         2 if random.once_in(2) => bytes.truncate(random.index(bytes.len() + 1)),
         3 if random.once_in(4) => bytes.retain(|byte| *byte != b':'),
@@ -132,25 +146,24 @@ fn many(random: &mut Random) -> Said {
 /// Each byte of a login that says yes, changed: no byte is overlooked.
 fn one_byte(random: &mut Random) -> Said {
     let mut answers = Answers::default();
-    let password = b"open sesame".to_vec();
-    let card = bytes_of(&Card { exponent: 3, r: 1, p: 1, ..card_for(&password, random) });
-    let opened =
-        scrypt::scrypt(&password, &card::read(&card).unwrap().salt, [8, 1, 1], card::read(&card).unwrap().key.len()).0;
-    let card = bytes_of(&Card { key: opened, ..card::read(&card).unwrap() });
-    let whole = Login { text: [b"rover:", &password[..]].concat(), card, allowance: u64::MAX };
-    assert_eq!(tried(&whole, 4096, random), Ok(true));
+    let user = b"rover";
+    let mut whole = opened([3, 1, 1], random);
+    let password = whole.text.rsplit(|byte| *byte == b':').next().unwrap();
+    whole.text = [user, &b":"[..], password].concat();
+    let scratch = 4096;
+    assert_eq!(tried(&whole, scratch, random), Ok(true));
     for at in 0..whole.text.len() {
         let mut asked = whole.clone();
         asked.text[at] ^= 1 << random.index(8);
-        let answer = tried(&asked, 4096, random);
+        let answer = tried(&asked, scratch, random);
         // A user name is looked at for its shape alone.
-        assert_eq!(answer == Ok(true), at < b"rover".len(), "byte {at} of the text");
+        assert_eq!(answer == Ok(true), at < user.len(), "byte {at} of the text");
         answers.count(answer);
     }
     for at in 0..whole.card.len() {
         let mut asked = whole.clone();
         asked.card[at] ^= 1 << random.index(8);
-        let answer = tried(&asked, 4096, random);
+        let answer = tried(&asked, scratch, random);
         assert_ne!(answer, Ok(true), "byte {at} of the card");
         answers.count(answer);
     }
@@ -160,7 +173,7 @@ fn one_byte(random: &mut Random) -> Said {
 /// Faults at each desk, alone and together: the first desk in the order speaks.
 fn desks(random: &mut Random) -> Said {
     let mut answers = Answers::default();
-    let good = bytes_of(&card_for(b"c", random));
+    let good = bytes_of(&card_for(b"c", [4, 1, 2], random));
     let broken = |at_the_end: usize, value: u8| {
         let mut bytes = good.clone();
         let at = bytes.len() - at_the_end;
@@ -171,9 +184,10 @@ fn desks(random: &mut Random) -> Said {
     let user = [&[b'x'; 65][..], b":c"].concat();
     let cards =
         [(good[..11].to_vec(), 21), (broken(1, b'c'), 22), (broken(8, 2), 23), (broken(12, 0), 24), (broken(7, 0), 25)];
-    let texts: [(&[u8], u64); 5] = [(b"", 31), (b"nocolon", 31), (b":x", 32), (&user, 32), (b"a:b:c", 0)];
+    let texts: [(&[u8], u64); 7] =
+        [(b"", 31), (b"nocolon", 31), (b":x", 32), (&user, 32), (b"a:b:c", 0), (b"a:d", 0), (&long, 0)];
     for (card, card_number) in cards.into_iter().chain([(good.clone(), 0)]) {
-        for (text, text_number) in texts.into_iter().chain([(&long[..], 0)]) {
+        for (text, text_number) in texts {
             for (scratch, allowance) in [(0, 0), (16384, 0), (16384, u64::MAX)] {
                 let asked = Login { text: text.to_vec(), card: card.clone(), allowance };
                 let answer = tried(&asked, scratch, random);
@@ -197,7 +211,7 @@ fn sequences(random: &mut Random) -> Said {
         let length = any_scratch(random).max(1500);
         let mut scratch = Guarded::copy(&random.bytes(length), side(random));
         let mut kept: Vec<Login> = (0..5).map(|_| any_login(random)).collect();
-        kept.extend((0..2).map(|_| opened(random)));
+        kept.extend((0..2).map(|_| opened([4, 1, 1], random)));
         for _ in 0..40 {
             let asked = kept[random.index(kept.len())].clone();
             let before = scratch.to_vec();
@@ -210,10 +224,4 @@ fn sequences(random: &mut Random) -> Said {
     }
     answers.saw(&["yes", "no", "desk 3's 9"]);
     answers.said()
-}
-
-fn opened(random: &mut Random) -> Login {
-    let password = any_password(random);
-    let card = bytes_of(&card_for(&password, random));
-    Login { text: [b"rover:", &password[..]].concat(), card, allowance: u64::MAX }
 }

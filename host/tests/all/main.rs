@@ -41,7 +41,7 @@ const TESTS: &[&[Test]] = &[
 const SKIPPED: i32 = 3;
 
 fn main() -> ExitCode {
-    let words: Vec<String> = env::args().skip(1).filter(|word| word != "--bench" && word != "--test").collect();
+    let words: Vec<String> = env::args().skip(1).collect();
     match words.as_slice() {
         [one, name] if one == "--one" => run_here(name),
         _ => run_all(&words),

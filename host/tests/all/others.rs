@@ -38,7 +38,7 @@ fn with(other: Other, random: &mut Random) -> Said {
         tried += 1;
     }
     assert!(tried > 200, "only {tried} of 400 were to its taste");
-    Said::Tried(format!("{tried} of 400 derivations, {} took no interest in the rest", other.name))
+    Said::Tried(format!("{tried} derivations, {} others were refused there", 400 - tried))
 }
 
 fn any_derivation(random: &mut Random) -> Derivation {
