@@ -5,7 +5,7 @@ use std::fmt;
 
 /// An enum whose cases carry the paper's numbers, from one table of name, number and meaning.
 macro_rules! refusals {
-    ($(#[$about:meta])* $name:ident { $($case:ident = $number:literal, $meaning:literal;)* }) => {
+    ($(#[$about:meta])* $name:ident of $desk:ident { $($case:ident = $number:literal, $meaning:literal;)* }) => {
         $(#[$about])*
         #[derive(Clone, Copy, Debug, PartialEq, Eq, Hash)]
         pub enum $name {
@@ -43,6 +43,12 @@ macro_rules! refusals {
         }
 
         impl Error for $name {}
+
+        impl From<$name> for Refusal {
+            fn from(reason: $name) -> Refusal {
+                Refusal::$desk(reason)
+            }
+        }
     };
 }
 
@@ -53,7 +59,7 @@ pub(crate) fn unlisted(number: u64) -> ! {
 
 refusals! {
     /// Why a derivation says no.
-    DerivationRefusal {
+    DerivationRefusal of Derivation {
         PassphraseTooLong = 1, "the passphrase has over 1,024 bytes: shorten it";
         SaltTooLong = 2, "the salt has over 1,024 bytes: shorten it";
         KeyLength = 3, "the key buffer is empty or has over 256 bytes: ask for 1 to 256";
@@ -69,7 +75,7 @@ refusals! {
 
 refusals! {
     /// Why a card is not read, or not written.
-    CardRefusal {
+    CardRefusal of Card {
         TooShort = 21, "the card has under 12 bytes, less than a trailer: is the file whole?";
         NoMark = 22, "the last four bytes are not RTKC: this is no card, or bytes were added behind it";
         Edition = 23, "the edition is not 1: write the card anew in this edition";
@@ -83,7 +89,7 @@ refusals! {
 
 refusals! {
     /// Why a login text is not taken apart.
-    TextRefusal {
+    TextRefusal of Text {
         NoColon = 31, "the text has no colon: give user:password";
         UserName = 32, "the user name is empty or has over 64 bytes: give 1 to 64 before the last colon";
     }
@@ -107,13 +113,22 @@ impl Refusal {
         }
     }
 
+    /// That desk's number.
+    pub fn number(self) -> u64 {
+        match self {
+            Refusal::Card(reason) => reason.number(),
+            Refusal::Text(reason) => reason.number(),
+            Refusal::Derivation(reason) => reason.number(),
+        }
+    }
+
     /// The desk that the library names by a number, with its reason, is the error; 0 is none.
     pub(crate) fn check(desk: u64, number: u64) -> Result<(), Refusal> {
         match desk {
             0 => Ok(()),
-            1 => CardRefusal::check(number).map_err(Refusal::Card),
-            2 => TextRefusal::check(number).map_err(Refusal::Text),
-            3 => DerivationRefusal::check(number).map_err(Refusal::Derivation),
+            1 => Ok(CardRefusal::check(number)?),
+            2 => Ok(TextRefusal::check(number)?),
+            3 => Ok(DerivationRefusal::check(number)?),
             _ => unlisted(desk),
         }
     }

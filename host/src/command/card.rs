@@ -3,7 +3,7 @@
 use super::amounts::{grouped, hex, unhex};
 use super::options::{Known, Options};
 use super::work::Lent;
-use super::{files, input, Said};
+use super::{files, input, refused, Said};
 use rinnamoyle::{derive, read_card, read_text, write_card, Cost};
 
 pub const WRITE_KNOWN: Known = Known {
@@ -23,7 +23,7 @@ const ROOM: usize = 64 + 64 + 12;
 pub fn cost(options: &Options) -> Result<Cost, String> {
     let or = |name, house| Ok::<u64, String>(options.amount(name)?.unwrap_or(house));
     let cost = Cost { n: or("--n", Cost::HOUSE.n)?, r: or("--r", Cost::HOUSE.r)?, p: or("--p", Cost::HOUSE.p)? };
-    cost.check().map_err(|refusal| format!("refused: {refusal}"))?;
+    cost.check().map_err(refused)?;
     Ok(cost)
 }
 
@@ -39,7 +39,7 @@ pub fn write(options: &Options) -> Result<Said, String> {
     let password = password()?;
     let done =
         lent.watched(Some(cost), |scratch, allowance| derive(&password, &salt, cost, &mut key, scratch, allowance));
-    done.map_err(|refusal| format!("refused: derivation desk, {refusal}{}", lent.numbers(cost, refusal)))?;
+    done.map_err(|reason| refused(reason) + &lent.numbers(cost, reason))?;
     let card = made(&salt, &key, cost)?;
     files::write(file, &card, options.has("--force"))?;
     Ok(Said::well(format!("{}: a card of {} bytes\n", file.display(), card.len())))
@@ -63,14 +63,13 @@ fn password() -> Result<Vec<u8>, String> {
 fn made(salt: &[u8], key: &[u8], cost: Cost) -> Result<Vec<u8>, String> {
     let mut room = [0; ROOM];
     let exponent = u64::from(cost.n.trailing_zeros());
-    let length = write_card(salt, key, exponent, cost.r, cost.p, &mut room);
-    let length = length.map_err(|refusal| format!("refused: card desk, {refusal}"))?;
+    let length = write_card(salt, key, exponent, cost.r, cost.p, &mut room).map_err(refused)?;
     Ok(room[..length].to_vec())
 }
 
 pub fn show(options: &Options) -> Result<Said, String> {
     let bytes = files::read(options.file("FILE")?)?;
-    let card = read_card(&bytes).map_err(|refusal| format!("refused: card desk, {refusal}"))?;
+    let card = read_card(&bytes).map_err(refused)?;
     let key = if options.has("--key") { hex(card.key) } else { "(--key shows it)".into() };
     Ok(Said::well(format!(
         "card  {} bytes\nN     {} (2^{})\nr     {}\np     {}\nsalt  {} bytes: {}\nkey   {} bytes: {key}\n",

@@ -2,7 +2,7 @@
 
 use super::options::{Known, Options};
 use super::work::Lent;
-use super::{files, input, Said, NO, REFUSED, YES};
+use super::{files, input, refused, Said, NO, REFUSED, YES};
 use rinnamoyle::{login, read_card, Answer, Refusal};
 
 pub const KNOWN: Known = Known { valued: &["--scratch", "--allowance"], bare: &[], often: &[] };
@@ -21,7 +21,7 @@ pub fn run(options: &Options) -> Result<Said, String> {
                 (Refusal::Derivation(reason), Some(cost)) => lent.numbers(cost, reason),
                 _ => String::new(),
             };
-            (format!("refused: {refusal}{numbers}"), REFUSED)
+            (refused(refusal) + &numbers, REFUSED)
         }
     };
     Ok(Said { text: text + "\n", status })

@@ -14,6 +14,7 @@ mod progress;
 mod work;
 
 use options::{Known, Options};
+use rinnamoyle::Refusal;
 use std::ffi::OsString;
 
 pub const YES: u8 = 0;
@@ -30,6 +31,11 @@ impl Said {
     fn well(text: impl Into<String>) -> Said {
         Said { text: text.into(), status: YES }
     }
+}
+
+/// A desk's refusal in words.
+fn refused(reason: impl Into<Refusal>) -> String {
+    format!("refused: {}", reason.into())
 }
 
 /// Something to do, by the words that choose it.

@@ -6,7 +6,7 @@ use super::meter::seconds_per_mixing;
 use super::options::{Known, Options};
 use super::plot::{self, Picture};
 use super::progress::watched;
-use super::{files, Said};
+use super::{files, refused, Said};
 use rinnamoyle::{read_card, Cost, DerivationRefusal, Plan};
 use std::path::Path;
 use std::time::Duration;
@@ -52,8 +52,7 @@ fn costs(options: &Options) -> Result<Cost, String> {
         return Err(format!("--card brings its own costs: leave out {name}"));
     }
     let bytes = files::read(Path::new(file))?;
-    let card = read_card(&bytes).map_err(|refusal| format!("refused: card desk, {refusal}"))?;
-    Ok(card.cost())
+    Ok(read_card(&bytes).map_err(refused)?.cost())
 }
 
 /// The scratch sizes asked for, or the shortest for each spacing.
@@ -82,43 +81,33 @@ fn usual(rows: &[Row]) -> f64 {
 
 fn table(cost: Cost, rows: &[Row], allowance: Option<u64>) -> String {
     let Cost { n, r, p } = cost;
-    let mut text = format!("N = {}, r = {r}, p = {p}: blocks of {} bytes\n\n", grouped(n), grouped(cost.block()));
-    let names = ["scratch", "", "k", "stored", "mixings at worst", "usually", "at worst"].map(String::from);
-    text += &line(&names);
-    for row in rows {
-        text += &match &row.bought {
-            Ok(bought) => line(&cells(cost, row.scratch, bought)).trim_end().to_string() + &verdict(bought, allowance),
-            Err(refusal) => line(&beginning(row.scratch)).trim_end().to_string() + &format!("  refused: {refusal}\n"),
-        };
+    let mut lines = vec![format!("N = {}, r = {r}, p = {p}: blocks of {} bytes\n", grouped(n), grouped(cost.block()))];
+    lines.push(line(&["scratch", "", "k", "stored", "mixings at worst", "usually", "at worst"].map(String::from)));
+    lines.extend(rows.iter().map(|row| told(cost, row, allowance)));
+    lines.join("\n") + "\n"
+}
+
+fn told(cost: Cost, row: &Row, allowance: Option<u64>) -> String {
+    let length = [grouped(row.scratch), size(row.scratch)];
+    match &row.bought {
+        Err(refusal) => line(&length) + "  refused: " + &refusal.to_string(),
+        Ok(bought) => {
+            let over = allowance.is_some_and(|allowance| bought.plan.worst > allowance);
+            line(&[&length[..], &cells(cost, bought)].concat()) + if over { "  refused: 9" } else { "" }
+        }
     }
-    text
 }
 
-fn verdict(bought: &Bought, allowance: Option<u64>) -> String {
-    let over = allowance.is_some_and(|allowance| bought.plan.worst > allowance);
-    (if over { "  refused: 9\n" } else { "\n" }).into()
-}
-
-fn beginning(scratch: u64) -> [String; 7] {
-    let mut cells = [const { String::new() }; 7];
-    cells[0] = grouped(scratch);
-    cells[1] = size(scratch);
-    cells
-}
-
-fn cells(cost: Cost, scratch: u64, bought: &Bought) -> [String; 7] {
+fn cells(cost: Cost, bought: &Bought) -> [String; 5] {
     let Bought { plan, seconds_per_mixing } = bought;
     let lasting = |mixings: u64| time(mixings as f64 * seconds_per_mixing);
-    let mut cells = beginning(scratch);
-    let numbers = [plan.spacing, plan.stored, plan.worst].map(grouped);
-    cells[2..5].clone_from_slice(&numbers);
-    cells[5] = lasting(plan.expected(cost));
-    cells[6] = lasting(plan.worst);
-    cells
+    let [spacing, stored, worst] = [plan.spacing, plan.stored, plan.worst].map(grouped);
+    [spacing, stored, worst, lasting(plan.expected(cost)), lasting(plan.worst)]
 }
 
-fn line(cells: &[String; 7]) -> String {
+/// Cells under each other: as many columns as there are cells.
+fn line(cells: &[String]) -> String {
     let widths = [15, 10, 9, 9, 20, 9, 9];
     let padded = |(cell, width): (&String, usize)| format!("{cell:>width$}");
-    cells.iter().zip(widths).map(padded).collect::<Vec<_>>().join(" ") + "\n"
+    cells.iter().zip(widths).map(padded).collect::<Vec<_>>().join(" ")
 }

@@ -15,7 +15,7 @@ pub const TESTS: &[Test] = &[
     ("more scratch, fewer mixings, the same key", falling),
     ("random derivations", many),
     ("shorter keys, and a zero byte added", related_keys),
-    ("the wrapper's plan", wrapper_plans),
+    ("the wrapper's plans", wrapper_plans),
     ("a stack of 64 KiB", small_stack),
 ];
 

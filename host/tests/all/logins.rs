@@ -204,6 +204,21 @@ fn desks(random: &mut Random) -> Said {
     answers.said()
 }
 
+/// The wrapper's answer, in the library's numbers.
+fn wrapped(asked: &Login, scratch: &mut [u8]) -> Answer {
+    use rinnamoyle::{Answer, Refusal};
+    let desk = |refusal| match refusal {
+        Refusal::Card(_) => 1,
+        Refusal::Text(_) => 2,
+        Refusal::Derivation(_) => 3,
+    };
+    match rinnamoyle::login(&asked.text, &asked.card, scratch, asked.allowance) {
+        Answer::Yes => Ok(true),
+        Answer::No => Ok(false),
+        Answer::Refused(refusal) => Err((desk(refusal), refusal.number())),
+    }
+}
+
 /// One scratch, lent to one login after another and never cleared between them: each answers as alone on a zero one.
 fn sequences(random: &mut Random) -> Said {
     let mut answers = Answers::default();
@@ -216,7 +231,7 @@ fn sequences(random: &mut Random) -> Said {
             let asked = kept[random.index(kept.len())].clone();
             let before = scratch.to_vec();
             let answer = login_on(&asked, &mut scratch, random);
-            let alone = login_on(&asked, &mut Guarded::zero(length, side(random)), random);
+            let alone = wrapped(&asked, &mut vec![0; length]);
             assert_eq!(answer, alone, "{asked:?} over a used scratch of {length}");
             assert!(if answer.is_ok() { all_zero(&scratch) } else { *scratch == *before }, "{asked:?}");
             answers.count(answer);

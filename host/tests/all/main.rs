@@ -13,6 +13,7 @@ mod others;
 mod tally;
 mod texts;
 mod vectors;
+mod wrapper;
 
 use apart::random::Random;
 use std::process::{Command, ExitCode, Output};
@@ -33,6 +34,7 @@ const TESTS: &[&[Test]] = &[
     cards::TESTS,
     texts::TESTS,
     logins::TESTS,
+    wrapper::TESTS,
     others::TESTS,
     example::TESTS,
     command::TESTS,
