@@ -233,6 +233,7 @@ fn sequences(random: &mut Random) -> Said {
             let answer = login_on(&asked, &mut scratch, random);
             let alone = wrapped(&asked, &mut vec![0; length]);
             assert_eq!(answer, alone, "{asked:?} over a used scratch of {length}");
+            assert_eq!(answer, apart::login::login(&asked.text, &asked.card, length, asked.allowance), "{asked:?}");
             assert!(if answer.is_ok() { all_zero(&scratch) } else { *scratch == *before }, "{asked:?}");
             answers.count(answer);
         }
