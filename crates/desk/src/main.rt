@@ -1,0 +1,237 @@
+// Reads and writes cards and takes login texts apart, a line for each: the refusal's number, 0 for
+// none, and then what was handed back.
+ghost use mathlib.Core.Path.{_≡_};
+ghost use Prim.Native.Nat.{_<_, _≤_};
+ghost use lib.ListN.{length};
+ghost use Rattle.card.specs.Paper.{reasonNo};
+ghost use Rattle.text.specs.Paper.{reasonNo as textNo};
+use card::Card;
+use card::Written;
+use cost::Exponent;
+use libc::STDOUT_FILENO;
+use text::Text;
+
+// N = 16, r = 1, p = 1.
+const CARD: [u8; 36] = *b"\
+    \x01\x02\x03\x04\x05\x06\x07\x08\
+    \x10\x11\x12\x13\x14\x15\x16\x17\x18\x19\x1A\x1B\x1C\x1D\x1E\x1F\
+    \x18\x00\x10\x00\x01\x04\x01\x01RTKC";
+
+fn card_number(why: card::Reason) -> u64
+    ensures { λ n. ⌜ n ≡ reasonNo why ⌝ }
+{
+    match why {
+        card::Reason::Short => 21,
+        card::Reason::Unmarked => 22,
+        card::Reason::OtherEdition => 23,
+        card::Reason::Lengths => 24,
+        card::Reason::Costs => 25,
+        card::Reason::Room => 26,
+    }
+}
+
+fn text_number(why: text::Reason) -> u64
+    ensures { λ n. ⌜ n ≡ textNo why ⌝ }
+{
+    match why {
+        text::Reason::NoColon => 31,
+        text::Reason::UserLength => 32,
+    }
+}
+
+fn say(s: &[u8]) {
+    io::write_all(STDOUT_FILENO, s);
+}
+
+fn say_number(label: &[u8], n: u64) {
+    say(label);
+    io::print_decimal(STDOUT_FILENO, n);
+}
+
+fn say_bytes(label: &[u8], s: &[u8]) {
+    say(label);
+    let mut i = 0;
+    while i < s.len() {
+        io::print_hex(STDOUT_FILENO, lent::wide(s[i]) as u64, 2);
+        i += 1;
+    }
+}
+
+fn say_numbers(no: u64, exponent: u64, r: u64, p: u64) {
+    say_number(b": ", no);
+    say_number(b", exponent ", exponent);
+    say_number(b", r ", r);
+    say_number(b", p ", p);
+}
+
+fn say_read(card: &[u8]) {
+    match card::read(card) {
+        Card::Good(m) => say_numbers(0, m.exponent.number(), m.r, m.p),
+        Card::Refused(why) => say_numbers(card_number(why), 0, 0, 0),
+    }
+}
+
+fn show_card(label: &[u8], card: &[u8]) {
+    say(label);
+    say_read(card);
+    say_bytes(b", salt ", card::salt(card));
+    say_bytes(b", key ", card::key(card));
+    say_number(b", claims ", card::claimed(card) as u64);
+    say(b"\n");
+}
+
+// The card with one byte changed.
+fn show_changed(label: &[u8], at: usize, byte: u8)
+    requires { ⌜ at < 36 ⌝ }
+{
+    let mut card = CARD;
+    card[at] = byte;
+    show_card(label, &card);
+}
+
+fn say_written(w: Written) {
+    match w {
+        Written::Length(n) => {
+            say_number(b": ", 0);
+            say_number(b", length ", n as u64);
+        }
+        Written::Refused(why) => {
+            say_number(b": ", card_number(why));
+            say_number(b", length ", 0);
+        }
+    }
+}
+
+// Writes a card with CARD's key over the room, and says what the room holds then.
+fn attempt(label: &[u8], salt: &[u8], exponent: u64, r: u64, room: &mut [u8]) {
+    let card = CARD;
+    let w = card::write(salt, &card[8..24], Exponent::new(exponent), r, 1, room);
+    say(label);
+    say_written(w);
+    say_bytes(b", room ", room);
+    say(b"\n");
+}
+
+// So many bytes of CARD's salt, and so many of room.
+fn show_write(label: &[u8], salt: usize, exponent: u64, r: u64, room: usize)
+    requires { ⌜ (salt ≤ 8) × (room ≤ 40) ⌝ }
+{
+    let card = CARD;
+    let mut bytes = [0xAAu8; 40];
+    attempt(label, &card[0..salt], exponent, r, &mut bytes[0..room]);
+}
+
+fn say_text(text: &[u8]) {
+    match text::read(text) {
+        Text::Good(_) => say_number(b": ", 0),
+        Text::Refused(why) => say_number(b": ", text_number(why)),
+    }
+}
+
+fn show_text(label: &[u8], text: &[u8]) {
+    say(label);
+    say_text(text);
+    say(b", user [");
+    say(text::user(text));
+    say(b"], password [");
+    say(text::password(text));
+    say(b"]\n");
+}
+
+// A user name of n letters.
+fn show_user(label: &[u8], n: usize)
+    requires { ⌜ n ≤ 65 ⌝ }
+{
+    let mut text = [b'u'; 67];
+    text[n] = b':';
+    let end = n + 2;
+    show_text(label, &text[0..end]);
+}
+
+fn show_cards() {
+    let card = CARD;
+    show_card(b"the whole card", &card);
+    show_card(b"no byte", &card[0..0]);
+    show_card(b"11 bytes", &card[25..]);
+    show_card(b"the trailer alone", &card[24..]);
+    show_card(b"the first byte cut off", &card[1..]);
+    show_changed(b"ends in RTKD", 35, b'D');
+    show_changed(b"ends in RTK2", 35, b'2');
+    show_changed(b"edition 2", 28, 2);
+    show_changed(b"key distance 15", 26, 15);
+    show_changed(b"key distance 17, salt of 7", 26, 17);
+    show_changed(b"key distance 65", 26, 65);
+    show_changed(b"salt distance 15, below the key distance", 24, 15);
+    show_changed(b"salt distance 25", 24, 25);
+    show_changed(b"salt distance past the card", 25, 255);
+    show_changed(b"exponent 0", 29, 0);
+    show_changed(b"exponent 15", 29, 15);
+    show_changed(b"exponent 16, N not below 2^16", 29, 16);
+    show_changed(b"exponent 200", 29, 200);
+    show_changed(b"r 0", 30, 0);
+    show_changed(b"r 255", 30, 255);
+    show_changed(b"p 0", 31, 0);
+    show_changed(b"p 255", 31, 255);
+}
+
+// A card that fails at 22, 23, 24 and 25 gives the first of them that is left.
+fn show_order() {
+    let mut card = CARD;
+    card[35] = 0;
+    card[28] = 3;
+    card[26] = 0;
+    card[29] = 200;
+    show_card(b"wrong ending, edition, key distance and exponent", &card);
+    card[35] = b'C';
+    show_card(b"wrong edition, key distance and exponent", &card);
+    card[28] = 1;
+    show_card(b"wrong key distance and exponent", &card);
+    card[26] = 16;
+    show_card(b"wrong exponent", &card);
+}
+
+// Two cards, one behind the other.
+fn show_two() {
+    let card = CARD;
+    let mut two = [0u8; 72];
+    lent::copy(&mut two, 0, &card);
+    lent::copy(&mut two, 36, &card);
+    show_card(b"two cards", &two);
+}
+
+fn show_writes() {
+    show_write(b"written", 8, 4, 1, 40);
+    show_write(b"written, room of 36", 8, 4, 1, 36);
+    show_write(b"room of 35", 8, 4, 1, 35);
+    show_write(b"no room", 8, 4, 1, 0);
+    show_write(b"exponent 200, no room", 8, 200, 1, 0);
+    show_write(b"exponent 200", 8, 200, 1, 40);
+    show_write(b"exponent 0", 8, 0, 1, 40);
+    show_write(b"exponent 16, r 1", 8, 16, 1, 40);
+    show_write(b"exponent 16, r 2", 8, 16, 2, 40);
+    show_write(b"r 257", 8, 4, 257, 40);
+    show_write(b"salt of 7, exponent 200, no room", 7, 200, 1, 0);
+    show_write(b"no salt", 0, 4, 1, 40);
+}
+
+fn show_texts() {
+    show_text(b"a:b:c", b"a:b:c");
+    show_text(b"a:", b"a:");
+    show_text(b":x", b":x");
+    show_text(b"::", b"::");
+    show_text(b":", b":");
+    show_text(b"no colon", b"abc");
+    show_text(b"no byte", b"");
+    show_user(b"user of 64", 64);
+    show_user(b"user of 65", 65);
+    show_user(b"user of 1", 1);
+    show_user(b"no user", 0);
+}
+
+fn main() {
+    show_cards();
+    show_order();
+    show_two();
+    show_writes();
+    show_texts();
+}
