@@ -6,7 +6,6 @@ usage: tests/desk.py > crates/desk/stdout
 Before it writes anything it holds itself to the paper's whole card, both ways, and to the three texts that the paper works out.
 """
 import struct
-import sys
 
 WHOLE = bytes.fromhex("0102030405060708 101112131415161718191A1B1C1D1E1F 1800 1000 01 04 01 01 52544B43")
 SALT, KEY = WHOLE[:8], WHOLE[8:24]
@@ -92,69 +91,42 @@ def changed(*changes):
     return bytes(card)
 
 
-def show_write(label, salt, exponent, r, room):
+def show_write(salt, exponent, r, room):
     number, length, after = write(SALT[:salt], KEY, exponent, r, 1, b"\xaa" * room)
-    print(f"{label}: {number}, length {length}, room {after.hex()}")
+    print(f"write salt of {salt}, exponent {exponent}, r {r}, room of {room}: {number}, length {length}, room {after.hex()}")
 
 
-def show_text(label, text):
+def show_text(text):
     number, user, password = part(text)
-    print(f"{label}: {number}, user [{user.decode()}], password [{password.decode()}]")
+    print(f"text [{text.decode()}]: {number}, user [{user.decode()}], password [{password.decode()}]")
 
 
 def main():
     hold_itself()
-    show_card("the whole card", WHOLE)
-    show_card("no byte", b"")
-    show_card("11 bytes", WHOLE[25:])
-    show_card("the trailer alone", WHOLE[24:])
-    show_card("the first byte cut off", WHOLE[1:])
-    for label, at, byte in (
-        ("ends in RTKD", 35, 0x44),
-        ("ends in RTK2", 35, 0x32),
-        ("edition 2", 28, 2),
-        ("key distance 15", 26, 15),
-        ("key distance 17, salt of 7", 26, 17),
-        ("key distance 65", 26, 65),
-        ("salt distance 15, below the key distance", 24, 15),
-        ("salt distance 25", 24, 25),
-        ("salt distance past the card", 25, 255),
-        ("exponent 0", 29, 0),
-        ("exponent 15", 29, 15),
-        ("exponent 16, N not below 2^16", 29, 16),
-        ("exponent 200", 29, 200),
-        ("r 0", 30, 0),
-        ("r 255", 30, 255),
-        ("p 0", 31, 0),
-        ("p 255", 31, 255),
-    ):
-        show_card(label, changed((at, byte)))
+    show_card("card", WHOLE)
+    show_card("none", b"")
+    for n in 11, 12, 35:
+        show_card(f"last {n}", WHOLE[-n:])
+    layouts = (35, 0x44), (35, 0x32), (28, 2), (26, 15), (26, 17), (26, 65), (24, 15), (24, 25), (25, 255)
+    costs = (29, 0), (29, 15), (29, 16), (29, 200), (30, 0), (30, 255), (31, 0), (31, 255)
+    for at, byte in layouts + costs:
+        show_card(f"byte {at} is {byte}", changed((at, byte)))
     wrong = [(35, 0), (28, 3), (26, 0), (29, 200)]
-    for first, label in enumerate(("ending, edition, key distance and exponent", "edition, key distance and exponent", "key distance and exponent", "exponent")):
-        show_card("wrong " + label, changed(*wrong[first:]))
-    show_card("two cards", WHOLE + WHOLE)
-    for case in (
-        ("written", 8, 4, 1, 40),
-        ("written, room of 36", 8, 4, 1, 36),
-        ("room of 35", 8, 4, 1, 35),
-        ("no room", 8, 4, 1, 0),
-        ("exponent 200, no room", 8, 200, 1, 0),
-        ("exponent 200", 8, 200, 1, 40),
-        ("exponent 0", 8, 0, 1, 40),
-        ("exponent 16, r 1", 8, 16, 1, 40),
-        ("exponent 16, r 2", 8, 16, 2, 40),
-        ("r 257", 8, 4, 257, 40),
-        ("salt of 7, exponent 200, no room", 7, 200, 1, 0),
-        ("no salt", 0, 4, 1, 40),
-    ):
-        show_write(*case)
-    for text in ("a:b:c", "a:", ":x", "::", ":"):
-        show_text(text, text.encode())
-    show_text("no colon", b"abc")
-    show_text("no byte", b"")
-    for n, label in ((64, "user of 64"), (65, "user of 65"), (1, "user of 1"), (0, "no user")):
-        show_text(label, b"u" * n + b":u")
+    for n in range(4):
+        show_card(f"from {22 + n}", changed(*wrong[n:]))
+    show_card("two", WHOLE + WHOLE)
+    show_write(8, 4, 1, 40)
+    show_write(8, 4, 1, 36)
+    show_write(8, 4, 1, 35)
+    show_write(8, 200, 1, 0)
+    show_write(8, 0, 1, 40)
+    show_write(8, 16, 1, 40)
+    show_write(8, 16, 2, 40)
+    show_write(8, 4, 257, 40)
+    show_write(7, 200, 1, 0)
+    for text in b"a:b:c", b"a:", b":x", b"::", b"abc", b"", b"u" * 64 + b":u", b"u" * 65 + b":u":
+        show_text(text)
 
 
 if __name__ == "__main__":
-    sys.exit(main())
+    main()

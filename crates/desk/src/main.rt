@@ -81,12 +81,14 @@ fn show_card(label: &[u8], card: &[u8]) {
 }
 
 // The card with one byte changed.
-fn show_changed(label: &[u8], at: usize, byte: u8)
+fn show_changed(at: usize, byte: u8)
     requires { ⌜ at < 36 ⌝ }
 {
     let mut card = CARD;
     card[at] = byte;
-    show_card(label, &card);
+    say_number(b"byte ", at as u64);
+    say_number(b" is ", byte as u64);
+    show_card(b"", &card);
 }
 
 fn say_written(w: Written) {
@@ -103,33 +105,37 @@ fn say_written(w: Written) {
 }
 
 // Writes a card with CARD's key over the room, and says what the room holds then.
-fn attempt(label: &[u8], salt: &[u8], exponent: u64, r: u64, room: &mut [u8]) {
+fn attempt(salt: &[u8], exponent: u64, r: u64, room: &mut [u8]) {
     let card = CARD;
     let w = card::write(salt, &card[8..24], Exponent::new(exponent), r, 1, room);
-    say(label);
     say_written(w);
     say_bytes(b", room ", room);
     say(b"\n");
 }
 
 // So many bytes of CARD's salt, and so many of room.
-fn show_write(label: &[u8], salt: usize, exponent: u64, r: u64, room: usize)
+fn show_write(salt: usize, exponent: u64, r: u64, room: usize)
     requires { ⌜ (salt ≤ 8) × (room ≤ 40) ⌝ }
 {
     let card = CARD;
     let mut bytes = [0xAAu8; 40];
-    attempt(label, &card[0..salt], exponent, r, &mut bytes[0..room]);
+    say_number(b"write salt of ", salt as u64);
+    say_number(b", exponent ", exponent);
+    say_number(b", r ", r);
+    say_number(b", room of ", room as u64);
+    attempt(&card[0..salt], exponent, r, &mut bytes[0..room]);
 }
 
 fn say_text(text: &[u8]) {
     match text::read(text) {
-        Text::Good(_) => say_number(b": ", 0),
-        Text::Refused(why) => say_number(b": ", text_number(why)),
+        Text::Good(_) => say_number(b"]: ", 0),
+        Text::Refused(why) => say_number(b"]: ", text_number(why)),
     }
 }
 
-fn show_text(label: &[u8], text: &[u8]) {
-    say(label);
+fn show_text(text: &[u8]) {
+    say(b"text [");
+    say(text);
     say_text(text);
     say(b", user [");
     say(text::user(text));
@@ -139,39 +145,47 @@ fn show_text(label: &[u8], text: &[u8]) {
 }
 
 // A user name of n letters.
-fn show_user(label: &[u8], n: usize)
+fn show_user(n: usize)
     requires { ⌜ n ≤ 65 ⌝ }
 {
     let mut text = [b'u'; 67];
     text[n] = b':';
     let end = n + 2;
-    show_text(label, &text[0..end]);
+    show_text(&text[0..end]);
 }
 
 fn show_cards() {
     let card = CARD;
-    show_card(b"the whole card", &card);
-    show_card(b"no byte", &card[0..0]);
-    show_card(b"11 bytes", &card[25..]);
-    show_card(b"the trailer alone", &card[24..]);
-    show_card(b"the first byte cut off", &card[1..]);
-    show_changed(b"ends in RTKD", 35, b'D');
-    show_changed(b"ends in RTK2", 35, b'2');
-    show_changed(b"edition 2", 28, 2);
-    show_changed(b"key distance 15", 26, 15);
-    show_changed(b"key distance 17, salt of 7", 26, 17);
-    show_changed(b"key distance 65", 26, 65);
-    show_changed(b"salt distance 15, below the key distance", 24, 15);
-    show_changed(b"salt distance 25", 24, 25);
-    show_changed(b"salt distance past the card", 25, 255);
-    show_changed(b"exponent 0", 29, 0);
-    show_changed(b"exponent 15", 29, 15);
-    show_changed(b"exponent 16, N not below 2^16", 29, 16);
-    show_changed(b"exponent 200", 29, 200);
-    show_changed(b"r 0", 30, 0);
-    show_changed(b"r 255", 30, 255);
-    show_changed(b"p 0", 31, 0);
-    show_changed(b"p 255", 31, 255);
+    show_card(b"card", &card);
+    show_card(b"none", &card[0..0]);
+    show_card(b"last 11", &card[25..]);
+    show_card(b"last 12", &card[24..]);
+    show_card(b"last 35", &card[1..]);
+}
+
+// Its ending, its edition and its distances.
+fn show_layouts() {
+    show_changed(35, b'D');
+    show_changed(35, b'2');
+    show_changed(28, 2);
+    show_changed(26, 15);
+    show_changed(26, 17);
+    show_changed(26, 65);
+    show_changed(24, 15);
+    show_changed(24, 25);
+    show_changed(25, 255);
+}
+
+// Its exponent, r and p.
+fn show_costs() {
+    show_changed(29, 0);
+    show_changed(29, 15);
+    show_changed(29, 16);
+    show_changed(29, 200);
+    show_changed(30, 0);
+    show_changed(30, 255);
+    show_changed(31, 0);
+    show_changed(31, 255);
 }
 
 // A card that fails at 22, 23, 24 and 25 gives the first of them that is left.
@@ -181,13 +195,13 @@ fn show_order() {
     card[28] = 3;
     card[26] = 0;
     card[29] = 200;
-    show_card(b"wrong ending, edition, key distance and exponent", &card);
+    show_card(b"from 22", &card);
     card[35] = b'C';
-    show_card(b"wrong edition, key distance and exponent", &card);
+    show_card(b"from 23", &card);
     card[28] = 1;
-    show_card(b"wrong key distance and exponent", &card);
+    show_card(b"from 24", &card);
     card[26] = 16;
-    show_card(b"wrong exponent", &card);
+    show_card(b"from 25", &card);
 }
 
 // Two cards, one behind the other.
@@ -196,40 +210,36 @@ fn show_two() {
     let mut two = [0u8; 72];
     lent::copy(&mut two, 0, &card);
     lent::copy(&mut two, 36, &card);
-    show_card(b"two cards", &two);
+    show_card(b"two", &two);
 }
 
 fn show_writes() {
-    show_write(b"written", 8, 4, 1, 40);
-    show_write(b"written, room of 36", 8, 4, 1, 36);
-    show_write(b"room of 35", 8, 4, 1, 35);
-    show_write(b"no room", 8, 4, 1, 0);
-    show_write(b"exponent 200, no room", 8, 200, 1, 0);
-    show_write(b"exponent 200", 8, 200, 1, 40);
-    show_write(b"exponent 0", 8, 0, 1, 40);
-    show_write(b"exponent 16, r 1", 8, 16, 1, 40);
-    show_write(b"exponent 16, r 2", 8, 16, 2, 40);
-    show_write(b"r 257", 8, 4, 257, 40);
-    show_write(b"salt of 7, exponent 200, no room", 7, 200, 1, 0);
-    show_write(b"no salt", 0, 4, 1, 40);
+    show_write(8, 4, 1, 40);
+    show_write(8, 4, 1, 36);
+    show_write(8, 4, 1, 35);
+    show_write(8, 200, 1, 0);
+    show_write(8, 0, 1, 40);
+    show_write(8, 16, 1, 40);
+    show_write(8, 16, 2, 40);
+    show_write(8, 4, 257, 40);
+    show_write(7, 200, 1, 0);
 }
 
 fn show_texts() {
-    show_text(b"a:b:c", b"a:b:c");
-    show_text(b"a:", b"a:");
-    show_text(b":x", b":x");
-    show_text(b"::", b"::");
-    show_text(b":", b":");
-    show_text(b"no colon", b"abc");
-    show_text(b"no byte", b"");
-    show_user(b"user of 64", 64);
-    show_user(b"user of 65", 65);
-    show_user(b"user of 1", 1);
-    show_user(b"no user", 0);
+    show_text(b"a:b:c");
+    show_text(b"a:");
+    show_text(b":x");
+    show_text(b"::");
+    show_text(b"abc");
+    show_text(b"");
+    show_user(64);
+    show_user(65);
 }
 
 fn main() {
     show_cards();
+    show_layouts();
+    show_costs();
     show_order();
     show_two();
     show_writes();
