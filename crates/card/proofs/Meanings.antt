@@ -1,22 +1,22 @@
 -- Cards of edition 1: what is written reads back, and what is accepted is the only card with its meaning.
 -- Each is the law over the edition, at the first.
 -- Assumes nothing.
-use mathlib.Core.Path.{_≡_, refl, sym, ap, ap₂, _∙_}
+use mathlib.Core.Path.{_≡_, refl, sym, ap, _∙_}
 use mathlib.Core.Bool.{Bool, true, false}
-use mathlib.Core.List.{List, [], _∷_, _++_}
-use Prim.Native.Nat.{ℕ, _+_, _-_, _≤_, _<_}
+use mathlib.Core.List.{List, []}
+use Prim.Native.Nat.{ℕ, _+_, _-_, _≤_}
 use native.Mathlib.Decide.{decLe}
 use native.Mathlib.Omega.{arith}
 use lib.Dec.{leb, eqb, lit<}
-use lib.ListN.{length, take, length-append}
-use lib.Seq.{sets, length-take-le, take-append-seam}
+use lib.ListN.{length, take}
+use lib.Seq.{sets, length-take-le}
 use borrow.Author.Tests.{leb-true, le-leb, eqb-true, eqb-false}
-use Rattle.lent.specs.Bytes.{pick, part, Bytes}
+use Rattle.lent.specs.Bytes.{pick, Bytes}
 use Rattle.lent.proofs.Picks.{pick-passed}
 use Rattle.lent.proofs.Parts.{length-part, part-sets-same}
-use Rattle.card.specs.Layout.{Edition, first, Trailer, trailerLength, cardBytes, endsIn, trailerIn, trailerOf, claimedOf}
+use Rattle.card.specs.Layout.{Edition, first, Trailer, trailerLength, cardBytes, endsIn, trailerIn, trailerOf}
 use Rattle.card.specs.Refusals.{okLengths, okCosts, Reading, refused, accepted, meantOf, judged, readAs, readOf, saltOf, keyOf, Writing, kept, placed, writeOf}
-use Rattle.card.proofs.Cards.{Meant, meant-good, meant-means, Judged, judged-good, judged-means, lengths-mean, length-card, written-ends, written-reads, written-salt, written-key, accepted-only, trailer-behind}
+use Rattle.card.proofs.Cards.{Meant, meant-good, meant-means, Judged, judged-good, judged-means, lengths-mean, length-card, written-ends, written-reads, written-salt, written-key, accepted-only}
 
 -- ---- what is accepted
 

@@ -1,6 +1,6 @@
 -- What the split of an accepted text means: a user name, a colon, and a password that has none; and it is the only such split.
 -- Assumes nothing.
-use mathlib.Core.Path.{_≡_, refl, sym, ap, _∙_}
+use mathlib.Core.Path.{_≡_, sym, ap, _∙_}
 use mathlib.Core.Bool.{Bool, true, false, _&&_, and-eq-true-iff}
 use mathlib.Core.List.{List, _∷_, _++_}
 use Prim.Native.Nat.{ℕ, suc, _+_, _-_, _≤_, _<_}
@@ -14,7 +14,7 @@ use borrow.Author.Tests.{ltb-true, leb-true, lt-ltb, le-ltb, le-leb}
 use Rattle.lent.specs.Bytes.{pick}
 use Rattle.lent.proofs.Picks.{pick-any, pick-passed}
 use Rattle.text.specs.Login.{colon, mostUser, colonPlace, Reading, refused, parted, readOf, userOf, passwordOf}
-use Rattle.text.proofs.Places.{Colon, Last, colon-is, last-only}
+use Rattle.text.proofs.Places.{Colon, colon-is, last-only}
 
 -- ---- by the colon's place
 
