@@ -35,7 +35,7 @@ lengths-mean salt key h =
 pub lengths-none : (salt key : ℕ) → salt ≡ 0 → okLengths salt key ≡ false
 lengths-none salt key h = rw h (and-false (fromTo 16 64 key))
 
-abbrev number : Reading → ℕ
+abbrev pub number : Reading → ℕ
 number x = x .refusal
 
 -- numbers that are accepted
