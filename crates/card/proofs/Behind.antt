@@ -1,7 +1,6 @@
 -- Cards one behind the other: the last says how long it is, and the part of that length reads as the trailer at the end says, whatever stands before it.
 -- Assumes nothing.
-use mathlib.Core.Path.{_≡_, refl, sym, ap, ap₂, _∙_}
-use mathlib.Core.Bool.{Bool, true, false}
+use mathlib.Core.Path.{_≡_, sym, ap, _∙_}
 use mathlib.Core.List.{List, _++_}
 use Prim.Native.Nat.{ℕ, _+_, _-_, _≤_, _<_}
 use native.Mathlib.Omega.{arith}
@@ -9,8 +8,8 @@ use lib.Dec.{eqb}
 use lib.ListN.{length, take, drop, length-append, length-drop, take-append-drop}
 use lib.Seq.{drop-append-add}
 use borrow.Author.Tests.{le-leb, eq-eqb, ne-eqb}
-use Rattle.lent.specs.Bytes.{pick, eqs}
-use Rattle.card.specs.Layout.{first, Trailer, trailerLength, endsIn, trailerOf, claimedOf}
+use Rattle.lent.specs.Bytes.{pick}
+use Rattle.card.specs.Layout.{first, trailerLength, endsIn, trailerOf, claimedOf}
 use Rattle.card.specs.Refusals.{Reading, refused, meantOf, judged, readOf}
 use Rattle.card.proofs.Cards.{trailer-behind}
 use Rattle.card.proofs.Meanings.{accepted-means}

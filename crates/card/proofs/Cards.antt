@@ -1,23 +1,23 @@
 -- Reading and writing undo each other, over the edition: a card that is written reads as what was written, and a card that is accepted is the one that
 -- writing what it says would make.
 -- Assumes nothing.
-use mathlib.Core.Path.{_≡_, refl, sym, ap, ap₂, _∙_}
-use mathlib.Core.Bool.{Bool, true, false, _&&_, and-false, and-eq-true-iff}
-use mathlib.Core.List.{List, [], _∷_, _++_, append-assoc}
-use Prim.Native.Nat.{ℕ, suc, _+_, _-_, _^_, _≤_, _<_}
+use mathlib.Core.Path.{_≡_, refl, sym, ap, _∙_}
+use mathlib.Core.Bool.{true, false, and-false, and-eq-true-iff}
+use mathlib.Core.List.{List, _++_, append-assoc}
+use Prim.Native.Nat.{ℕ, _+_, _-_, _≤_}
 use native.Mathlib.Omega.{arith}
 use lib.Dec.{leb, eqb, lit<}
-use lib.ListN.{length, getD, take, drop, length-append, length-drop, take-append-drop}
+use lib.ListN.{length, take, drop, length-append, length-drop, take-append-drop}
 use lib.Seq.{drop-at, drop-drop, drop-append-add, drop-append-seam, take-append-seam, take-add, length-take-le}
 use borrow.Author.Tests.{leb-true, eqb-true, eq-eqb}
-use Rattle.lent.specs.Bytes.{pick, part, Bytes, eqs}
+use Rattle.lent.specs.Bytes.{part, Bytes, eqs}
 use Rattle.lent.proofs.Parts.{length-part}
 use Rattle.lent.proofs.Bounds.{below-drop}
 use Rattle.lent.proofs.Picks.{pick-passed}
 use Rattle.lent.proofs.Tabs.{eqs-refl, eqs-true}
 use Rattle.card.specs.Layout.{Edition, Trailer, trailerBytes, trailerLength, trailerSaying, cardBytes, endsIn, trailerIn, trailerOf}
 use Rattle.card.specs.Refusals.{fromTo, okLengths, okCosts, Reading, refused, accepted, meantOf, judged, readAs}
-use Rattle.card.proofs.Trailers.{Sound, length-trailer, trailer-read, trailer-only, trailer-drop, trailer-ext, trailer-ending}
+use Rattle.card.proofs.Trailers.{length-trailer, trailer-read, trailer-only, trailer-drop, trailer-ext, trailer-ending}
 
 -- ---- 24 and 25
 
@@ -35,7 +35,7 @@ lengths-mean salt key h =
 pub lengths-none : (salt key : ℕ) → salt ≡ 0 → okLengths salt key ≡ false
 lengths-none salt key h = rw h (and-false (fromTo 16 64 key))
 
-abbrev number : Reading → ℕ
+abbrev pub number : Reading → ℕ
 number x = x .refusal
 
 -- numbers that are accepted

@@ -7,7 +7,7 @@ use native.Mathlib.Omega.{arith}
 use Rattle.lent.specs.Bytes.{pick}
 use Rattle.cost.specs.declared.Converted.the-variants.{N, OutOfRange}
 use Rattle.cost.specs.declared.Checked.{Checked}
-use Rattle.cost.specs.declared.Checked.the-variants.{Good, Bad}
+use Rattle.cost.specs.declared.Checked.the-variants.{Good}
 use Rattle.cost.specs.Limits.{mostR, mostP, mostExponent, okR, okP, okPower, okSize, okExponent}
 use Rattle.cost.specs.Costs.{checked, powerOf, checkedExponent, checkedPower}
 use Rattle.cost.proofs.Powers.{within-means}

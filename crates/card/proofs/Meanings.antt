@@ -1,27 +1,25 @@
 -- Cards of edition 1: what is written reads back, and what is accepted is the only card with its meaning.
 -- Each is the law over the edition, at the first.
 -- Assumes nothing.
-use mathlib.Core.Path.{_≡_, refl, sym, ap, ap₂, _∙_}
+use mathlib.Core.Path.{_≡_, refl, sym, ap, _∙_}
+use mathlib.Core.Logic.{_↔_}
 use mathlib.Core.Bool.{Bool, true, false}
-use mathlib.Core.List.{List, [], _∷_, _++_}
-use Prim.Native.Nat.{ℕ, _+_, _-_, _≤_, _<_}
+use mathlib.Core.List.{List, []}
+use Prim.Native.Nat.{ℕ, _+_, _-_, _≤_}
 use native.Mathlib.Decide.{decLe}
 use native.Mathlib.Omega.{arith}
 use lib.Dec.{leb, eqb, lit<}
-use lib.ListN.{length, take, length-append}
-use lib.Seq.{sets, length-take-le, take-append-seam}
+use lib.ListN.{length, take}
+use lib.Seq.{sets, length-take-le}
 use borrow.Author.Tests.{leb-true, le-leb, eqb-true, eqb-false}
-use Rattle.lent.specs.Bytes.{pick, part, Bytes}
+use Rattle.lent.specs.Bytes.{pick, Bytes}
 use Rattle.lent.proofs.Picks.{pick-passed}
 use Rattle.lent.proofs.Parts.{length-part, part-sets-same}
-use Rattle.card.specs.Layout.{Edition, first, Trailer, trailerLength, cardBytes, endsIn, trailerIn, trailerOf, claimedOf}
+use Rattle.card.specs.Layout.{Edition, first, Trailer, trailerLength, cardBytes, endsIn, trailerIn, trailerOf}
 use Rattle.card.specs.Refusals.{okLengths, okCosts, Reading, refused, accepted, meantOf, judged, readAs, readOf, saltOf, keyOf, Writing, kept, placed, writeOf}
-use Rattle.card.proofs.Cards.{Meant, meant-good, meant-means, Judged, judged-good, judged-means, lengths-mean, length-card, written-ends, written-reads, written-salt, written-key, accepted-only, trailer-behind}
+use Rattle.card.proofs.Cards.{number, Meant, meant-good, meant-means, Judged, judged-good, judged-means, lengths-mean, length-card, written-ends, written-reads, written-salt, written-key, accepted-only}
 
 -- ---- what is accepted
-
-abbrev number : Reading → ℕ
-number x = x .refusal
 
 -- an accepted card has a trailer, with the ending and the numbers that the table asks for
 pub record Accepted (card : List ℕ) : Type 0 where
@@ -78,6 +76,11 @@ unfolding readOf
 refused-bare card =
     bare-row (leb (trailerLength first) (length card)) _ 21 (bare-row (endsIn (first .mark) card) _ 22 (bare-judged first (length card) (trailerOf first card)))
 
+-- and both parts are empty
+pub refused-empty : (card : List ℕ) → (readOf card .refusal ≡ 0 → ⊥) → (saltOf card ≡ []) × (keyOf card ≡ [])
+unfolding saltOf keyOf
+refused-empty card h = rw (refused-bare card h) (refl, refl)
+
 -- so both parts lie within the card, refused or not
 pub within : (card : List ℕ) → readOf card .salt + readOf card .key ≤ length card
 within card =
@@ -121,11 +124,17 @@ only-card card bytes h =
     let a = accepted-means card h in
     rw (accepted-is a) (accepted-only first card (a .room) (a .ends) bytes (a .judged))
 
--- equal meaning, equal bytes; the other way each part of the meaning is a function of the bytes
-pub same-card : (a b : List ℕ) → Bytes a → Bytes b → readOf a .refusal ≡ 0 → readOf a ≡ readOf b → saltOf a ≡ saltOf b → keyOf a ≡ keyOf b → a ≡ b
-same-card a b bytes-a bytes-b good numbers salts keys =
-    let good-b : readOf b .refusal ≡ 0 = ap number (sym numbers) ∙ good in
-    only-card a bytes-a good ∙ rw (numbers, salts, keys) (sym (only-card b bytes-b good-b))
+abbrev pub SameMeaning : List ℕ → List ℕ → Type 0
+SameMeaning a b = (readOf a ≡ readOf b) × (saltOf a ≡ saltOf b) × (keyOf a ≡ keyOf b)
+
+-- equal meaning and equal bytes go together
+pub same-card : (a b : List ℕ) → Bytes a → Bytes b → readOf a .refusal ≡ 0 → SameMeaning a b ↔ (a ≡ b)
+same-card a b bytes-a bytes-b good = (
+  λ same.
+      let good-b : readOf b .refusal ≡ 0 = ap number (sym (same .0)) ∙ good in
+      only-card a bytes-a good ∙ rw (same .0, same .1, same .2) (sym (only-card b bytes-b good-b)),
+  λ e. (ap readOf e, ap saltOf e, ap keyOf e),
+)
 
 -- ---- the writer
 

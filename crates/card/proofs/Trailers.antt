@@ -1,17 +1,17 @@
 -- A trailer's numbers and its bytes say each other, over the edition.
 -- Assumes nothing.
-use mathlib.Core.Path.{_≡_, refl, sym, ap, ap₂, _∙_}
-use mathlib.Core.List.{List, [], _∷_, _++_}
-use Prim.Native.Nat.{ℕ, suc, _+_, _-_, _^_, _≤_, _<_}
+use mathlib.Core.Path.{_≡_, refl, sym, ap, _∙_}
+use mathlib.Core.List.{List, _∷_, _++_}
+use Prim.Native.Nat.{ℕ, suc, _+_, _^_, _≤_, _<_}
 use native.Mathlib.Omega.{arith}
-use lib.ListN.{length, getD, take, drop, length-append, length-drop, take-append-drop}
+use lib.ListN.{length, getD, take, drop, length-append, take-append-drop}
 use lib.Seq.{drop-append-add, drop-cons, drop-drop, getD-drop, getD-append-add, take-append-seam}
 use Rattle.lent.specs.Bytes.{part, Bytes}
 use Rattle.lent.specs.Word.{le, ofLe}
 use native.Mathlib.Nat.{zero-add}
 use Rattle.lent.proofs.Parts.{length-part}
 use Rattle.lent.proofs.Bounds.{below-part}
-use Rattle.lent.proofs.Words.{length-le, ofLe-le, le-ofLe}
+use Rattle.lent.proofs.Words.{ofLe-le, le-ofLe}
 use Rattle.card.specs.Layout.{Edition, Trailer, trailerBytes, trailerLength, trailerIn}
 
 -- a trailer that an edition can write: what stands between has its count, and each distance fits its two bytes

@@ -2,16 +2,15 @@
 -- Assumes nothing.
 use mathlib.Core.Path.{_≡_, refl, sym, ap, _∙_}
 use mathlib.Core.List.{List}
-use Prim.Native.Nat.{ℕ, _<_}
-use lib.Dec.{eqb, lit<}
-use native.Mathlib.Omega.{arith}
+use Prim.Native.Nat.{ℕ}
+use lib.Dec.{eqb}
 use Rattle.lent.specs.Bytes.{pick}
 use Rattle.text.specs.declared.Reason.{Reason}
 use Rattle.text.specs.declared.Reason.the-variants.{NoColon, UserLength}
 use Rattle.text.specs.declared.Text.{Text}
 use Rattle.text.specs.declared.Text.the-variants.{Good, Refused}
 use Rattle.text.specs.Login.{Reading, readOf}
-use Rattle.text.specs.Paper.{reasonNo, paper, lengthsOf}
+use Rattle.text.specs.Paper.{paper, lengthsOf}
 
 -- the answer that the paper's number and values stand for
 abbrev reasonOf : ℕ → Reason

@@ -2,19 +2,20 @@
 -- Assumes nothing.
 use mathlib.Core.Path.{_≡_, refl, sym, ap, _∙_}
 use mathlib.Core.Bool.{Bool, true, false, _&&_, and-eq-true-iff}
-use mathlib.Core.List.{List, _∷_, _++_}
+use mathlib.Core.List.{List, [], _∷_, _++_}
 use Prim.Native.Nat.{ℕ, suc, _+_, _-_, _≤_, _<_}
+use native.Mathlib.Nat.{sub-zero}
 use native.Mathlib.Decide.{decLt}
 use native.Mathlib.Numerals.{add-one}
 use native.Mathlib.Omega.{arith}
 use lib.Dec.{leb, ltb, lit<}
 use lib.ListN.{length, getD, take, drop, length-append, length-drop}
-use lib.Seq.{split-at, take-append-seam, drop-append-add, getD-append-seam, getD-append-add, getD-drop}
+use lib.Seq.{drop-length, split-at, take-append-seam, drop-append-add, getD-append-seam, getD-append-add, getD-drop}
 use borrow.Author.Tests.{ltb-true, leb-true, lt-ltb, le-ltb, le-leb}
 use Rattle.lent.specs.Bytes.{pick}
 use Rattle.lent.proofs.Picks.{pick-any, pick-passed}
 use Rattle.text.specs.Login.{colon, mostUser, colonPlace, Reading, refused, parted, readOf, userOf, passwordOf}
-use Rattle.text.proofs.Places.{Colon, Last, colon-is, last-only}
+use Rattle.text.proofs.Places.{Colon, colon-is, last-only}
 
 -- ---- by the colon's place
 
@@ -85,6 +86,16 @@ unfolding readOf
 none-given text clean =
     let at = colonPlace text in
     elim (decLt at (length text)) [ yes inside ↦ absurd (clean at inside (colon-is text .held inside)) | no past ↦ parted-none (length text) at (omega arith) ]
+
+-- where a text is refused both parts are empty
+pub refused-empty : (text : List ℕ) → (readOf text .refusal ≡ 0 → ⊥) → (userOf text ≡ []) × (passwordOf text ≡ [])
+unfolding userOf passwordOf readOf parted
+refused-empty text =
+    let n = length text in
+    let at = colonPlace text in
+    let Bare : Reading → Type 0 = λ x. (x .refusal ≡ 0 → ⊥) → (take (x .user) text ≡ []) × (drop (n - x .password) text ≡ []) in
+    let bare : (n : ℕ) → Bare (refused n) = λ n h. (refl, rw sub-zero (drop-length text)) in
+    pick-any Bare (ltb at n) _ _ (λ inside. pick-any Bare (leb 1 at && leb at mostUser) (split n at) (refused 32) (λ fits h. absurd (h refl)) (λ not. bare 32)) (λ none. bare 31)
 
 pub accepted : (text : List ℕ) → readOf text .refusal ≡ 0 → Parted (length text) (colonPlace text)
 unfolding readOf
