@@ -1,5 +1,5 @@
 #!/usr/bin/env python3
-"""Writes what `cores` must write, from a Salsa20/8 and a BlockMix of its own.
+"""Writes what `cores` must write, from a Salsa20/8, a BlockMix and a ROMix of its own.
 
 usage: tests/cores.py > crates/cores/stdout
 
@@ -70,16 +70,17 @@ def block_mix(block):
 
 
 def romix(block, n):
-    """RFC 7914, section 5."""
-    stored = []
-    x = block
+    """RFC 7914 section 5: the block, and the places that step 3 looks up."""
+    v = []
     for _ in range(n):
-        stored.append(x)
-        x = block_mix(x)
+        v.append(block)
+        block = block_mix(block)
+    places = []
     for _ in range(n):
-        j = int.from_bytes(x[-64:], "little") % n
-        x = block_mix(xor(x, stored[j]))
-    return x
+        j = int.from_bytes(block[-64:], "little") % n
+        places.append(j)
+        block = block_mix(xor(block, v[j]))
+    return block, places
 
 
 CORE_IN = bytes.fromhex("""
@@ -108,13 +109,17 @@ SCRYPT_OUT = bytes.fromhex("""
     fcd0069ded0948f8326a753a0fc81f17 e8d3e0fb2e0d3628cf35e20c38d18906""")
 
 
+# the places that section 10 looks up
+PLACES = [4, 2, 5, 7, 9, 1, 7, 2, 13, 2, 11, 10, 10, 15, 13, 2]
+
+
 def held():
     yield "section 8", salsa20_8(CORE_IN), CORE_OUT
     yield "section 9", block_mix(BLOCK_IN), BLOCK_OUT
-    yield "section 10", romix(BLOCK_IN, 16), ROMIX_OUT
+    yield "section 10", romix(BLOCK_IN, 16), (ROMIX_OUT, PLACES)
     lane = hashlib.pbkdf2_hmac("sha256", b"", b"", 1, 128)
     yield "section 12, step 1", lane, BLOCK_IN
-    yield "section 12", hashlib.pbkdf2_hmac("sha256", b"", romix(lane, 16), 1, 64), SCRYPT_OUT
+    yield "section 12", hashlib.pbkdf2_hmac("sha256", b"", romix(lane, 16)[0], 1, 64), SCRYPT_OUT
 
 
 def pattern(r):
@@ -129,6 +134,8 @@ def main():
     print("BlockMix of section 9:", block_mix(BLOCK_IN).hex())
     for r in 2, 8:
         print(f"BlockMix, r = {r}:", block_mix(pattern(r)).hex())
+    for k in 1, 2, 3, 4, 16:
+        print(f"one in {k}: mixings {2 * 16 + sum(j % k for j in PLACES)} {ROMIX_OUT.hex()}")
 
 
 if __name__ == "__main__":

@@ -4,12 +4,12 @@
 usage: tests/keys.py > crates/keys/stdout          (some minutes: its ROMix is plain Python)
 
 The keys are the document's, and OpenSSL's by way of hashlib; refusals and spacing follow the rules in plain words;
-the mixings come from the places j that a ROMix of its own looks up (tests/mixes.py).
+the mixings come from the places j that a ROMix of its own looks up (tests/cores.py).
 """
 import hashlib
 import sys
 
-from mixes import romix
+from cores import romix
 
 SECTION_12 = {
     (b"", b"", 16, 1, 1): """

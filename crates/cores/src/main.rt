@@ -1,6 +1,7 @@
-// Writes what the core and BlockMix make of RFC 7914's inputs and of a fixed pattern, a line each.
+// Writes what the core, BlockMix and ROMix make of RFC 7914's inputs and of a fixed pattern, a line
+// each.
 ghost use mathlib.Core.Path.{_≡_};
-ghost use Prim.Native.Nat.{_+_, _*_, _≤_};
+ghost use Prim.Native.Nat.{_*_, _<_, _≤_};
 ghost use lib.ListN.{length};
 use lines::line;
 
@@ -11,7 +12,7 @@ const CORE: [u8; 64] = *b"\
     \xee\x24\xf3\x19\xdf\x9b\x3d\x85\x14\x12\x1e\x4b\x5a\xc5\xaa\x32\
     \x76\x02\x1d\x29\x09\xc7\x48\x29\xed\xeb\xc6\x8d\xb8\xb8\xc2\x5e";
 
-// RFC 7914 section 9.
+// The input of RFC 7914 sections 9 and 10, which is also the one lane of section 12's first vector.
 const BLOCK: [u8; 128] = *b"\
     \xf7\xce\x0b\x65\x3d\x2d\x72\xa4\x10\x8c\xf5\xab\xe9\x12\xff\xdd\
     \x77\x76\x16\xdb\xbb\x27\xa7\x0e\x82\x04\xf3\xae\x2d\x0f\x6f\xad\
@@ -43,6 +44,19 @@ fn mixed(label: &[u8], s: &mut [u8], r: usize)
     line(label, &s[half..]);
 }
 
+// ROMix of section 10 with one block in k stored: the block must be the document's at every k, and
+// the count what the places j make it.
+fn spaced(k: usize, w: usize)
+    requires { ⌜ (0 < k) × (k ≤ 16) × (w ≤ 16) × (16 ≤ w * k) ⌝ }
+{
+    let mut s = [0u8; 2560];
+    lent::copy(&mut s, 0, &BLOCK);
+    let made = romix::mix_lanes(16, 1, 1, k, w, &mut s, 272);
+    lines::number(b"one in ", k as u64);
+    lines::number(b": mixings ", made);
+    lines::line(b" ", &s[0..128]);
+}
+
 fn main() {
     let mut core = CORE;
     let x = salsa::load(&core, 0);
@@ -61,4 +75,10 @@ fn main() {
     let mut eight = [0u8; 2048];
     pattern(&mut eight);
     mixed(b"BlockMix, r = 8: ", &mut eight, 8);
+
+    spaced(1, 16);
+    spaced(2, 8);
+    spaced(3, 6);
+    spaced(4, 4);
+    spaced(16, 1);
 }

@@ -36,7 +36,7 @@ use Rattle.text.specs.Paper as TextPaper
 use Rattle.login.specs.Login.{Told, yea, nay, refusedBy, costOn, compared, weighed, loginOf}
 
 -- yes or no by the key, or the derivation's refusal
-abbrev pub outcome : List ℕ → Derivation.Told × (List ℕ × List ℕ) → Told × List ℕ
+abbrev outcome : List ℕ → Derivation.Told × (List ℕ × List ℕ) → Told × List ℕ
 outcome K d = pick (eqb (d .0 .number) 0) (pick (eqs (d .1 .0) K) yea nay, d .1 .1) (refusedBy 3 (d .0 .number), d .1 .1)
 
 numbered : (why : Reason) → eqb (reasonNo why) 0 ≡ false
@@ -54,16 +54,25 @@ compared-is : (P S K : List ℕ) (c : Cost) (key scratch : List ℕ) (plan : Pla
 compared-is P S K c key scratch (Go k w) = refl
 compared-is P S K c key scratch (No why) = rw (numbered why)
 
-pub weighed-is : (P S K : List ℕ) (c : Cost) (key scratch : List ℕ) (allowance : ℕ) → weighed P S K c (length key) scratch allowance ≡ outcome K (derivation P S c key scratch allowance)
+weighed-is : (P S K : List ℕ) (c : Cost) (key scratch : List ℕ) (allowance : ℕ) → weighed P S K c (length key) scratch allowance ≡ outcome K (derivation P S c key scratch allowance)
 unfolding weighed derivation
 weighed-is P S K c key scratch allowance = compared-is P S K c key scratch (planOf (length P) (length S) (length key) (length scratch) allowance c)
 
--- each answer of a derivation
-pub refused-outcome : (K : List ℕ) (a : Answer) (why : Reason) (key scratch : List ℕ) → a ≡ Refused why → (refusedBy 3 (reasonNo why), scratch) ≡ outcome K (Derivation.paper a, (key, scratch))
-refused-outcome K a why key scratch e = rw (e, numbered why)
+-- each answer of a derivation, and what a login makes of it
+module _ (P S K : List ℕ) (c : Cost) (key scratch : List ℕ) (allowance : ℕ) (a : Answer) (key′ scratch′ : List ℕ)
+    (met : (Derivation.paper a, (key′, scratch′)) ≡ derivation P S c key scratch allowance) where
+  told : outcome K (Derivation.paper a, (key′, scratch′)) ≡ weighed P S K c (length key) scratch allowance
+  told = ap (outcome K) met ∙ sym (weighed-is P S K c key scratch allowance)
 
-pub derived-outcome : (K : List ℕ) (a : Answer) (k w m : ℕ) (key scratch : List ℕ) (b : Bool) → a ≡ Derived k w m → b ≡ eqs key K → (pick b yea nay, scratch) ≡ outcome K (Derivation.paper a, (key, scratch))
-derived-outcome K a k w m key scratch b e f = rw (e, f)
+  pub refused-weighed : (why : Reason) → a ≡ Refused why → (refusedBy 3 (reasonNo why), scratch′) ≡ weighed P S K c (length key) scratch allowance
+  refused-weighed why e =
+      let here : (refusedBy 3 (reasonNo why), scratch′) ≡ outcome K (Derivation.paper a, (key′, scratch′)) = rw (e, numbered why) in
+      here ∙ told
+
+  pub derived-weighed : (k w m : ℕ) (b : Bool) → a ≡ Derived k w m → b ≡ eqs key′ K → (pick b yea nay, scratch′) ≡ weighed P S K c (length key) scratch allowance
+  derived-weighed k w m b e f =
+      let here : (pick b yea nay, scratch′) ≡ outcome K (Derivation.paper a, (key′, scratch′)) = rw (e, f) in
+      here ∙ told
 
 -- ---- a card that was read
 

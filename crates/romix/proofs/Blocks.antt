@@ -4,7 +4,7 @@ use mathlib.Core.Path.{_≡_, refl, sym, ap, _∙_}
 use lib.Dec.{eqb}
 use mathlib.Core.Logic.{_≢_}
 use mathlib.Core.List.{List}
-use Prim.Native.Nat.{ℕ, _+_, _-_, _*_, _/_, _≤_, _<_}
+use Prim.Native.Nat.{ℕ, _+_, _-_, _*_, _/_, _^_, _≤_, _<_}
 use native.Mathlib.Nat.{mul-le-mul-left, mul-le-mul-right, div-lt-iff-lt-mul}
 use native.Mathlib.Decide.{decLe}
 use native.Mathlib.Omega.{arith}
@@ -30,6 +30,15 @@ block-apart t i j h =
       | yes below ↦ (let next : i + 1 ≤ j = omega arith in omega (arith, mul-le-mul-right (block t) next))
       | no above ↦ (let next : j + 1 ≤ i = omega arith in omega (arith, mul-le-mul-right (block t) next))
     ]
+
+-- where a block begins is a number that 64 bits hold
+pub block-at : {t : State} {long : ℕ} (i : ℕ) → Room t long → i < blocks t → long < 2 ^ 64 → (t .r ≤ 64) × (i * block t < 2 ^ 64)
+block-at {t} i fits h small = (fits .wide, omega (arith, block-in i fits h))
+
+-- what a read of one block and a write of another want
+pub pair-fits : {t : State} {long : ℕ} (i j : ℕ) → Room t long → i < blocks t → j < blocks t → i ≢ j
+    → (i * block t + block t ≤ long) × (j * block t + block t ≤ long) × Apart (block t) (i * block t) (j * block t)
+pair-fits {t} i j fits h k apart = (block-in i fits h, block-in j fits k, block-apart t i j apart)
 
 pub length-get : {t : State} (i : ℕ) (s : List ℕ) → Room t (length s) → i < blocks t → length (get t i s) ≡ block t
 length-get {t} i s fits h = length-part (i * block t) (block t) s (block-in i fits h)

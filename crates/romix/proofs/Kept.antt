@@ -21,23 +21,10 @@ use Rattle.romix.specs.declared.State.{State}
 use Rattle.romix.specs.ROMix.{Vᵢ, place, entering, roMix, sum, named, mixings}
 use Rattle.romix.specs.Machine.{Room, Fit, block, blocks, get, put, atX, atStep, atStored, moved, more, first, kept, forward, second, settled, source, finished, followed, loaded, next}
 use Rattle.romix.proofs.Sums.{sum-zero}
-use Rattle.romix.proofs.Steps.{some-stored, next-first, next-forward, next-second, next-finished}
+use Rattle.romix.proofs.Steps.{some-stored, fit-moved, next-first, next-forward, next-second, next-finished}
 use Rattle.romix.proofs.Clean.{length-zeros}
 use Rattle.romix.proofs.Blocks.{get-put-same, get-put-other, length-get, source-in}
 use Rattle.romix.proofs.Meaning.{Holds, far, spent, total, Bounded, spent-less, more-is, V-zero, V-suc, entering-zero, entering-suc, length-V, length-entering, kept-low, kept-same, kept-other}
-
--- a fit state elsewhere in a lane
-fit-moved : (t : State) (lane pos ahead made : ℕ) {long : ℕ} → Fit t long → pos < 2 * t .n → Fit (moved t lane pos ahead made) long
-fit-moved t lane pos ahead made fit h =
-    record {
-      within = record { thin = fit .within .thin; wide = fit .within .wide; room = fit .within .room };
-      some = fit .some;
-      small = fit .small;
-      word = fit .word;
-      space = fit .space;
-      held = fit .held;
-      turned = h;
-    }
 
 only-zero : (q k : ℕ) → 0 < k → q * k ≤ 0 → q ≡ 0
 only-zero zero k pos h = refl

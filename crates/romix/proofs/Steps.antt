@@ -83,11 +83,9 @@ pub record Running (t : State) (s₀ : List ℕ) (all : ℕ) (u : State) (s : Li
   pub long : length s ≡ length s₀
   pub rest : after left u (clean t s) ≡ after all t (clean t s₀)
 
--- a step keeps a state fit
-pub fit-next : (t : State) (s : List ℕ) {long : ℕ} → Fit t long → Fit (next t s .0) long
-fit-next t s {long} fit =
-    next-any t s (λ u. Fit u long) (fit .turned)
-    (λ lane pos ahead made h.
+-- a fit state is fit elsewhere in a lane, so a step keeps it so
+pub fit-moved : (t : State) (lane pos ahead made : ℕ) {long : ℕ} → Fit t long → pos < 2 * t .n → Fit (moved t lane pos ahead made) long
+fit-moved t lane pos ahead made fit h =
     record {
       within = record { thin = fit .within .thin; wide = fit .within .wide; room = fit .within .room };
       some = fit .some;
@@ -96,7 +94,10 @@ fit-next t s {long} fit =
       space = fit .space;
       held = fit .held;
       turned = h;
-    })
+    }
+
+pub fit-next : (t : State) (s : List ℕ) {long : ℕ} → Fit t long → Fit (next t s .0) long
+fit-next t s {long} fit = next-any t s (λ u. Fit u long) (fit .turned) (λ lane pos ahead made h. fit-moved t lane pos ahead made fit h)
 
 pub running-more : (t : State) (s₀ : List ℕ) (all : ℕ) (u : State) (s : List ℕ) (left : ℕ) (u′ : State) (s′ : List ℕ)
     → Running t s₀ all u s left → 0 < left → u .lane < u .p → length s′ ≡ length s → (u′, clean u s′) ≡ next u (clean u s)
