@@ -1,14 +1,14 @@
 -- Powers of two: one shifted by e is 2 ^ e, and the test for powers means what it says. Assumes nothing.
 use mathlib.Core.Path.{_≡_, refl, sym, ap, _∙_}
 use mathlib.Core.Bool.{Bool, true, false, _&&_, _||_}
-use Prim.Native.Nat.{ℕ, zero, suc, _+_, _-_, _*_, _%_, _^_, _≤_, _<_}
+use Prim.Native.Nat.{ℕ, zero, suc, _-_, _*_, _%_, _^_, _≤_, _<_}
 use native.Mathlib.Nat.{one-mul, mod-eq-of-lt}
 use native.Mathlib.Decide.{decLe}
 use native.Mathlib.Omega.{arith}
 use lib.Dec.{eqb, leb}
-use lib.Pow.{pow-lt, pow-pos}
+use lib.Pow.{pow-lt}
 use borrow.Author.Tests.{eqb-true, eq-eqb, leb-true}
-use Rattle.cost.specs.Limits.{within, isPower, okPower}
+use Rattle.cost.specs.Limits.{within, isPower}
 
 pub both-true : (a b : Bool) → a && b ≡ true → (a ≡ true) × (b ≡ true)
 both-true true b h = (refl, h)

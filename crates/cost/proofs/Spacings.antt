@@ -3,12 +3,11 @@
 use mathlib.Core.Path.{_≡_, refl, sym, ap, _∙_}
 use mathlib.Core.Bool.{Bool, true, false}
 use Prim.Native.Nat.{ℕ, zero, suc, _+_, _-_, _*_, _/_, _%_, _^_, _≤_, _<_}
-use native.Mathlib.Nat.{pow-suc, pow-zero, mul-assoc, mul-one, one-mul, div-le-of-le-mul, div-self, mod-mod-of-dvd, mod-le, dvd-mul-right}
+use native.Mathlib.Nat.{pow-suc, mul-one, one-mul, div-le-of-le-mul, mod-mod-of-dvd, mod-le, dvd-mul-right}
 use native.Mathlib.Decide.{decLe}
 use native.Mathlib.Omega.{arith}
-use lib.Dec.{leb}
-use lib.Pow.{pow-pos, pow-mono, pow-add}
-use borrow.Author.Tests.{leb-true, leb-false, le-leb, lt-leb}
+use lib.Pow.{pow-pos, pow-add}
+use borrow.Author.Tests.{leb-true, le-leb}
 use Rattle.lent.specs.Bytes.{pick}
 use Rattle.cost.specs.Spacing.{fits, firstFit, spacing}
 

@@ -1,7 +1,6 @@
 -- Checked costs: refusals 4 to 7, in their order.
 use Prim.Native.Nat.{ℕ, _^_}
 use Rattle.lent.specs.Bytes.{pick}
-use Rattle.cost.specs.declared.Power.{Power}
 use Rattle.cost.specs.declared.Exponent.{Exponent}
 use Rattle.cost.specs.declared.Converted.{Converted}
 use Rattle.cost.specs.declared.Converted.the-variants.{N, OutOfRange}

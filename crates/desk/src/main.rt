@@ -1,6 +1,5 @@
 // Reads and writes cards and takes login texts apart, a line for each: the refusal's number, 0 for
 // none, and then what was handed back.
-ghost use mathlib.Core.Path.{_≡_};
 ghost use Prim.Native.Nat.{_<_, _≤_};
 ghost use lib.ListN.{length};
 use card::Card;

@@ -1,13 +1,12 @@
 -- Laws of parts and places: `part at n l` reads, `sets l at vs` writes. By induction on what is written, from `lib.Seq`'s laws of one store.
 -- Assumes nothing.
-use mathlib.Core.Path.{_≡_, refl, sym, ap, _∙_, subst}
-use mathlib.Core.Logic.{_≢_}
+use mathlib.Core.Path.{_≡_, refl, sym, ap, _∙_}
 use mathlib.Core.List.{List, [], _∷_, _++_, append-assoc, append-nil}
 use Prim.Native.Nat.{ℕ, zero, suc, _+_, _-_, _≤_, _<_}
-use native.Mathlib.Nat.{add-suc, suc-add, add-zero, zero-add, add-sub-of-le}
+use native.Mathlib.Nat.{add-suc, suc-add, add-zero, zero-add}
 use native.Mathlib.Decide.{decLe}
 use native.Mathlib.Omega.{arith}
-use lib.ListN.{length, getD, set, take, drop, length-set, length-take, length-drop, length-append, take-append-drop, drop-of-length-le, replicate, length-replicate, replicate-append-replicate}
+use lib.ListN.{length, getD, set, take, drop, length-set, length-drop, length-append, take-append-drop, drop-of-length-le, replicate, length-replicate, replicate-append-replicate}
 use lib.Seq.{sets, sets-eq, length-sets, set-comm, set-set, take-set-le, drop-set-lt, drop-set-add, take-at, drop-at, take-append-seam, take-take, drop-drop, take-add, take-all, drop-append-le, drop-append-add, take-append-le, length-take-le, getD-take, getD-drop, getD-set-other}
 use Rattle.lent.specs.Bytes.{part, Apart}
 

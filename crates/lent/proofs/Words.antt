@@ -7,7 +7,7 @@ use native.Mathlib.Nat.{pow-suc, add-zero, add-suc, mul-comm, div-one, div-div-e
 use native.Mathlib.Numerals.{add-one}
 use native.Mathlib.Omega.{arith}
 use lib.Arith.{mod-mul}
-use lib.ListN.{length, getD, take, drop, length-append, length-drop}
+use lib.ListN.{length, getD, drop, length-append, length-drop}
 use Rattle.lent.specs.Bytes.{Bytes, part, tab}
 use Rattle.lent.specs.Word.{le, be, ofLe}
 use Rattle.lent.proofs.Tabs.{tab-part}

@@ -1,5 +1,4 @@
 -- The login check: the card is asked first (21 to 25), then the text (31, 32), then the derivation (1 to 9).
-use mathlib.Core.Bool.{Bool, true, false}
 use mathlib.Core.List.{List}
 use Prim.Native.Nat.{ℕ, _^_}
 use lib.Dec.{eqb}

@@ -1,7 +1,6 @@
 // The login check: a text, a card, one lent scratch and an allowance; yes, no, or which desk refused
 // and why.
 ghost use mathlib.Core.Path.{_≡_};
-ghost use Prim.Native.Nat.{_≤_};
 ghost use lib.ListN.{length};
 ghost use Rattle.card.specs.Refusals.{readOf as cardOf, saltOf, keyOf};
 ghost use Rattle.card.specs.Paper.{paper as cardPaper};

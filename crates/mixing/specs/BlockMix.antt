@@ -1,5 +1,5 @@
 -- scryptBlockMix: RFC 7914 section 4, in its letters. B is 2 * r pieces of 64 bytes, B[0] .. B[2 * r - 1].
-use mathlib.Core.List.{List, [], _++_}
+use mathlib.Core.List.{List, _++_}
 use Prim.Native.Nat.{ℕ, zero, suc, _+_, _-_, _*_}
 use Rattle.lent.specs.Bytes.{part, xors, joined}
 use Rattle.salsa.specs.Salsa.{salsaBytes}

@@ -1,6 +1,6 @@
 -- Blocks of the scratch by their number: a block lies within it, two blocks lie apart, and what reading after writing gives.
 -- Here alone byte places are products; above, a block is a number. Assumes nothing.
-use mathlib.Core.Path.{_≡_, refl, sym, ap, _∙_}
+use mathlib.Core.Path.{_≡_, sym, ap, _∙_}
 use lib.Dec.{eqb}
 use mathlib.Core.Logic.{_≢_}
 use mathlib.Core.List.{List}
@@ -13,7 +13,7 @@ use Rattle.lent.specs.Bytes.{part, Apart}
 use Rattle.lent.proofs.Parts.{length-part, part-sets-same, part-sets-apart, sets-over, sets-apart}
 use Rattle.lent.proofs.Picks.{pick-any}
 use Rattle.romix.specs.declared.State.{State}
-use Rattle.romix.specs.Machine.{Room, Fit, block, blocks, get, put, atStep, atWork, atStored, source}
+use Rattle.romix.specs.Machine.{Room, Fit, block, blocks, get, put, atWork, source}
 
 -- n blocks from block i on lie within the scratch
 pub blocks-in : {t : State} {long : ℕ} (i n : ℕ) → Room t long → i + n ≤ blocks t → i * block t + n * block t ≤ long

@@ -3,8 +3,7 @@
 use mathlib.Core.Path.{_≡_, refl, sym, ap, ap₂, _∙_}
 use mathlib.Core.Logic.{_≢_}
 use mathlib.Core.List.{List}
-use Prim.Native.Nat.{ℕ, _+_, _*_, _/_, _%_, _≤_, _<_}
-use native.Mathlib.Nat.{mul-le-mul-right}
+use Prim.Native.Nat.{ℕ, _*_, _/_, _%_, _<_}
 use native.Mathlib.Omega.{arith}
 use lib.Dec.{eqb, ltb}
 use lib.ListN.{length, length-replicate}
@@ -17,7 +16,7 @@ use Rattle.lent.proofs.Tabs.{length-xors}
 use Rattle.mixing.specs.BlockMix.{blockMix}
 use Rattle.mixing.proofs.Laws.{length-blockMix}
 use Rattle.romix.specs.declared.State.{State}
-use Rattle.romix.specs.Machine.{Room, block, blocks, get, put, atX, atStep, atWork, atStored, clean, mixed, kept, settled, loaded, followed, source}
+use Rattle.romix.specs.Machine.{Room, block, blocks, get, put, atX, atStep, atWork, atStored, clean, mixed, kept, settled, loaded, followed}
 use Rattle.romix.proofs.Blocks.{get-put-same, get-put-other, put-over, put-comm, length-get}
 
 pub length-zeros : (n : ℕ) → length (zeros n) ≡ n

@@ -1,5 +1,5 @@
 -- Each step keeps the scratch as RFC 7914 has it, case by case. Assumes nothing.
-use mathlib.Core.Path.{_≡_, refl, sym, ap, ap₂, _∙_, subst}
+use mathlib.Core.Path.{_≡_, refl, sym, ap, ap₂, _∙_}
 use mathlib.Core.Logic.{_≢_, _⊎_, inl, inr}
 use mathlib.Core.List.{List}
 use Prim.Native.Nat.{ℕ, zero, suc, _+_, _-_, _*_, _/_, _%_, _^_, _≤_, _<_}
@@ -14,17 +14,16 @@ use lib.Seq.{sets, length-sets}
 use Rattle.lent.specs.Bytes.{xors, zeros}
 use Rattle.lent.proofs.Parts.{part-sets-before}
 use Rattle.lent.proofs.Picks.{pick-any}
-use Rattle.lent.proofs.Tabs.{length-xors}
 use Rattle.mixing.specs.BlockMix.{blockMix}
 use Rattle.mixing.proofs.Laws.{length-blockMix}
 use Rattle.romix.specs.declared.State.{State}
 use Rattle.romix.specs.ROMix.{Vᵢ, place, entering, roMix, sum, named, mixings}
-use Rattle.romix.specs.Machine.{Room, Fit, block, blocks, get, put, atX, atStep, atStored, moved, more, first, kept, forward, second, settled, source, finished, followed, loaded, next}
+use Rattle.romix.specs.Machine.{Room, Fit, block, get, put, atX, atStep, atStored, moved, more, first, kept, forward, second, settled, source, finished, followed, loaded, next}
 use Rattle.romix.proofs.Sums.{sum-zero}
 use Rattle.romix.proofs.Steps.{some-stored, fit-moved, next-first, next-forward, next-second, next-finished}
 use Rattle.romix.proofs.Clean.{length-zeros}
-use Rattle.romix.proofs.Blocks.{get-put-same, get-put-other, length-get, source-in}
-use Rattle.romix.proofs.Meaning.{Holds, far, spent, total, Bounded, spent-less, more-is, V-zero, V-suc, entering-zero, entering-suc, length-V, length-entering, kept-low, kept-same, kept-other}
+use Rattle.romix.proofs.Blocks.{get-put-same, get-put-other, length-get}
+use Rattle.romix.proofs.Meaning.{Holds, far, spent, total, spent-less, more-is, V-zero, V-suc, entering-zero, entering-suc, length-entering, kept-low, kept-same, kept-other}
 
 only-zero : (q k : ℕ) → 0 < k → q * k ≤ 0 → q ≡ 0
 only-zero zero k pos h = refl

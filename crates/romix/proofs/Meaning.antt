@@ -1,27 +1,23 @@
 -- What the machine's scratch holds, in RFC 7914's words, and that each step keeps it so.
 -- The lane's X is V[pos] in the first pass and X as it enters turn pos - N in the second; stored block q is V[qk]; the block stepped forward is `ahead` mixings past the stored one.
 -- Assumes nothing.
-use mathlib.Core.Path.{_≡_, refl, sym, ap, ap₂, _∙_, subst}
-use mathlib.Core.Bool.{Bool, true, false}
+use mathlib.Core.Path.{_≡_, refl, sym, ap, _∙_}
 use mathlib.Core.Logic.{_≢_}
 use mathlib.Core.List.{List}
 use Prim.Native.Nat.{ℕ, zero, suc, _+_, _-_, _*_, _/_, _%_, _^_, _≤_, _<_}
-use native.Mathlib.Nat.{mod-eq-of-lt, div-add-mod', add-suc, mod-lt, mul-mod-left, mul-div-cancel, lt-of-mul-lt-mul-right}
-use native.Mathlib.Numerals.{add-one}
+use native.Mathlib.Nat.{mod-eq-of-lt, div-add-mod', mul-mod-left, mul-div-cancel, lt-of-mul-lt-mul-right}
 use native.Mathlib.Decide.{decLe}
 use native.Mathlib.Omega.{arith}
 use borrow.Author.Tests.{eq-eqb, lt-ltb, eqb-true}
 use lib.Dec.{eqb, ltb}
 use lib.ListN.{length}
-use lib.Seq.{length-sets}
-use Rattle.lent.specs.Bytes.{xors, pick}
+use Rattle.lent.specs.Bytes.{xors}
 use Rattle.lent.proofs.Picks.{pick-any}
-use Rattle.lent.proofs.Tabs.{length-xors}
 use Rattle.mixing.specs.BlockMix.{blockMix}
 use Rattle.mixing.proofs.Laws.{length-blockMix}
 use Rattle.romix.specs.declared.State.{State}
-use Rattle.romix.specs.ROMix.{times, Vᵢ, place, turn, entering, roMix, sum, named, mixings}
-use Rattle.romix.specs.Machine.{Room, Fit, block, blocks, get, put, atX, atStep, atStored, moved, more, first, kept, forward, second, finished, next, after}
+use Rattle.romix.specs.ROMix.{Vᵢ, place, turn, entering, roMix, sum, named, mixings}
+use Rattle.romix.specs.Machine.{Room, Fit, block, blocks, get, atX, atStep, atStored, more, first, kept, forward, second}
 use Rattle.romix.proofs.Sums.{sum-zero, sum-below}
 use Rattle.romix.proofs.Blocks.{get-put-same, get-put-other, length-get}
 

@@ -1,7 +1,6 @@
 -- The machine: one mixing a step over one lent scratch of blocks. Block i lies at byte i·128·r:
 -- lanes 0 .. p-1, then X, the block stepped forward, the working block, and the stored blocks V[0], V[k], V[2k] ..
 -- Each definition says what the whole scratch is afterwards. Between mixings nothing is asked of the working block, so they speak of the scratch with that block wiped.
-use mathlib.Core.Bool.{Bool, true, false}
 use mathlib.Core.List.{List}
 use mathlib.Core.Path.{_≡_}
 use Prim.Native.Nat.{ℕ, zero, suc, _+_, _*_, _/_, _%_, _^_, _≤_, _<_}

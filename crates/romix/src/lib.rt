@@ -12,7 +12,7 @@ ghost use lib.ListN.{length};
 ghost use lib.Seq.{sets};
 ghost use Rattle.lent.specs.Bytes.{part, zeros, xors, joined};
 ghost use Rattle.romix.specs.ROMix.{place, roMix, sum, mixings};
-ghost use Rattle.romix.specs.Machine.{opening, Room, Fit, block, blocks, get, put, atX, atStored, clean, moved, more, mixed, kept, first, source, forward, settled, second, loaded, followed, finished, next, after};
+ghost use Rattle.romix.specs.Machine.{opening, Room, Fit, block, blocks, get, put, atX, clean, moved, more, mixed, kept, first, source, forward, settled, second, loaded, followed, finished, next, after};
 
 pub struct State {
     // N, r and p

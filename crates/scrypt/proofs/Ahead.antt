@@ -19,7 +19,7 @@ use Rattle.cost.proofs.Powers.{within-means}
 use Rattle.cost.proofs.Goods.{Sound, good-means}
 use Rattle.romix.specs.Machine.{Fit, opening}
 use Rattle.scrypt.specs.declared.Reason.{Reason}
-use Rattle.scrypt.specs.declared.Reason.the-variants.{Passphrase, Salt, Key, Costs, Scratch, Allowance}
+use Rattle.scrypt.specs.declared.Reason.the-variants.{Passphrase, Salt, Key, Scratch, Allowance}
 use Rattle.scrypt.specs.declared.Plan.{Plan}
 use Rattle.scrypt.specs.declared.Plan.the-variants.{Go, No}
 use Rattle.scrypt.specs.Limits.{longestPassphrase, longestSalt, longestKey}

@@ -2,7 +2,7 @@
 use mathlib.Core.Path.{_≡_, refl, sym, ap, _∙_}
 use mathlib.Core.Bool.{false}
 use mathlib.Core.List.{List}
-use Prim.Native.Nat.{ℕ, _+_, _*_, _/_, _%_, _^_, _≤_, _<_}
+use Prim.Native.Nat.{ℕ, _+_, _*_, _/_, _^_, _≤_, _<_}
 use native.Mathlib.Nat.{mul-le-mul-left, div-mul-le-self, le-div-iff-mul-le}
 use native.Mathlib.Omega.{arith}
 use lib.ListN.{length}
@@ -14,7 +14,7 @@ use Rattle.cost.proofs.Goods.{Sound, sound-good}
 use Rattle.cost.proofs.Spacings.{spacing-falls, nearer}
 use Rattle.romix.proofs.Sums.{sum-mono, sum-most, sum-same-terms, mixings-mono, mixings-most, mixings-one}
 use Rattle.scrypt.specs.declared.Plan.{Plan}
-use Rattle.scrypt.specs.declared.Plan.the-variants.{Go, No}
+use Rattle.scrypt.specs.declared.Plan.the-variants.{Go}
 use Rattle.scrypt.specs.Limits.{longestPassphrase, longestSalt, longestKey}
 use Rattle.scrypt.specs.Plans.{wholeBlocks, worstCase, afforded, planOf}
 use Rattle.scrypt.specs.Scrypt.{lane, scrypt, allMixings}

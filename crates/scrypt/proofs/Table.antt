@@ -1,7 +1,6 @@
 -- The numbers the desk will try, and the core of zeros: rows of one table, under one claim.
 -- "Any" is a variable, and all rows hold for all passphrase, salt and key lengths within the limits. Assumes nothing.
-use mathlib.Core.Path.{_≡_, refl, ap, _∙_}
-use mathlib.Core.Bool.{true}
+use mathlib.Core.Path.{_≡_}
 use mathlib.Core.List.{List, [], _∷_, map}
 use Prim.Native.Nat.{ℕ, _≤_}
 use borrow.Author.Tests.{le-leb}

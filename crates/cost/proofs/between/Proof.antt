@@ -1,7 +1,5 @@
 -- `cost::between` meets its contract: a test for each way out.
 -- Assumes nothing.
-use borrow.Author.Needs.{needs}
-use native.Mathlib.Omega.{arith}
 use borrow.Author.Tests.{lt-leb, le-leb}
 use Rattle.cost.proofs.between.Statement.{statement}
 use Rattle.cost.proofs.between.Tie as tie

@@ -1,6 +1,5 @@
 -- `cost::size_fits` meets its contract: from r = 2 on the second bound follows from the first.
 -- Assumes nothing.
-use borrow.Author.Needs.{needs}
 use native.Mathlib.Omega.{arith}
 use mathlib.Core.Path.{_≡_}
 use Prim.Native.Nat.{_*_, _^_, _≤_, _<_}

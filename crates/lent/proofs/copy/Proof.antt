@@ -1,12 +1,11 @@
 -- `lent::copy` meets its contract: the loop stores src's bytes in order.
 -- Assumes nothing.
-use Prim.Native.Nat.{ℕ, _+_, _-_}
-use mathlib.Core.Path.{_≡_, refl, sym, ap, _∙_}
+use Prim.Native.Nat.{_-_}
+use mathlib.Core.Path.{refl, _∙_}
 use borrow.Author.Needs.{needs}
 use native.Mathlib.Omega.{arith}
 use lib.ListN.{length, getD}
-use lib.Seq.{take-length, sets}
-use Rattle.lent.specs.Bytes.{tab}
+use lib.Seq.{take-length}
 use Rattle.lent.proofs.Tabs.{Filled, filled-none, filled-more, filled-all, tab-take}
 use Rattle.lent.proofs.copy.Statement.{statement}
 use Rattle.lent.proofs.copy.Tie as tie

@@ -1,10 +1,8 @@
 -- `lent::get_be32` meets its contract: the four bytes are read one by one.
 -- Assumes nothing.
-use Prim.Native.Nat.{ℕ, _+_, _-_, _≤_}
-use mathlib.Core.Path.{_≡_, refl, sym, ap, _∙_}
+use Prim.Native.Nat.{_-_}
 use borrow.Author.Needs.{needs}
 use native.Mathlib.Omega.{arith}
-use lib.ListN.{length, getD, length-set}
 use Rattle.lent.specs.Word.{ofBe}
 use Rattle.lent.proofs.Words.{part-four}
 use Rattle.lent.proofs.get_be32.Statement.{statement}

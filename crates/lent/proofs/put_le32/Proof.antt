@@ -1,10 +1,9 @@
 -- `lent::put_le32` meets its contract: four stores, one after the other.
 -- Assumes nothing.
-use Prim.Native.Nat.{ℕ, _+_, _-_, _≤_}
-use mathlib.Core.Path.{_≡_, refl, sym, ap, _∙_}
+use Prim.Native.Nat.{_-_}
 use borrow.Author.Needs.{needs}
 use native.Mathlib.Omega.{arith}
-use lib.ListN.{length, getD, length-set}
+use lib.ListN.{length-set}
 use native.Mathlib.Numerals.{towards-suc}
 use Rattle.lent.specs.Word.{le}
 use Rattle.lent.proofs.put_le32.Statement.{statement}

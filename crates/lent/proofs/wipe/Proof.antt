@@ -1,10 +1,8 @@
 -- `lent::wipe` meets its contract: the loop stores zeros.
 -- Assumes nothing.
-use Prim.Native.Nat.{ℕ, _+_, _-_}
-use mathlib.Core.Path.{_≡_, refl, sym, ap, _∙_}
+use Prim.Native.Nat.{_-_}
+use mathlib.Core.Path.{refl, _∙_}
 use borrow.Author.Needs.{needs}
-use native.Mathlib.Omega.{arith}
-use lib.ListN.{length, getD}
 use Rattle.lent.proofs.Tabs.{Filled, filled-none, filled-more, filled-all, tab-zeros}
 use Rattle.lent.proofs.wipe.Statement.{statement}
 use Rattle.lent.proofs.wipe.Tie as tie

@@ -1,15 +1,13 @@
 -- `login::check` meets its contract: the three desks, each asked whole before the next.
 -- Assumes nothing.
 use borrow.Author.Needs.{needs}
-use native.Mathlib.Omega.{arith}
-use mathlib.Core.Path.{_≡_, sym, ap, _∙_}
+use mathlib.Core.Path.{sym, ap, _∙_}
 use Prim.Native.Nat.{ℕ}
 use mathlib.Core.List.{List}
 use Rattle.text.specs.Login.{Reading}
 use Rattle.text.specs.Paper as TextPaper
 use Rattle.card.specs.Paper as CardPaper
 use Rattle.card.specs.Refusals.{readOf, saltOf, keyOf}
-use Rattle.card.specs.declared.Card.{Card}
 use Rattle.text.specs.declared.Text.{Text}
 use Rattle.login.specs.Login.{costOn, weighed}
 use Rattle.login.proofs.Desks.{card-refuses, text-refuses, asks-derivation}

@@ -1,7 +1,6 @@
 -- `rinnamoyle::rinnamoyle_card_read` meets its contract: the card's own promise.
 -- Assumes nothing.
 use borrow.Author.Needs.{needs}
-use native.Mathlib.Omega.{arith}
 use mathlib.Core.Path.{_∙_, ap}
 use Rattle.rinnamoyle.specs.Host.{cardTold}
 use Rattle.rinnamoyle.proofs.rinnamoyle_card_read.Statement.{statement}

@@ -1,8 +1,7 @@
 -- `rinnamoyle::rinnamoyle_card_write` meets its contract: the card's own promise, for the exponent that the number makes.
 -- Assumes nothing.
 use borrow.Author.Needs.{needs}
-use native.Mathlib.Omega.{arith}
-use mathlib.Core.Path.{_≡_, ap, _∙_}
+use mathlib.Core.Path.{ap, _∙_}
 use Prim.Native.Nat.{ℕ}
 use Rattle.card.specs.Refusals.{writeOf}
 use Rattle.rinnamoyle.proofs.rinnamoyle_card_write.Statement.{statement}

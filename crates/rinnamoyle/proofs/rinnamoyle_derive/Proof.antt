@@ -1,10 +1,8 @@
 -- `rinnamoyle::rinnamoyle_derive` meets its contract: the derivation's own promise, for the cost that the numbers make.
 -- Assumes nothing.
 use borrow.Author.Needs.{needs}
-use native.Mathlib.Omega.{arith}
-use mathlib.Core.Path.{_≡_, ap, ap₂, _∙_}
+use mathlib.Core.Path.{ap, _∙_}
 use Prim.Native.Nat.{ℕ}
-use mathlib.Core.List.{List}
 use Rattle.scrypt.specs.Derivation.{Told, derivation}
 use Rattle.rinnamoyle.proofs.rinnamoyle_derive.Statement.{statement}
 use Rattle.rinnamoyle.proofs.rinnamoyle_derive.Tie as tie

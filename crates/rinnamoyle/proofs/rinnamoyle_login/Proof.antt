@@ -1,9 +1,7 @@
 -- `rinnamoyle::rinnamoyle_login` meets its contract: the login's own promise.
 -- Assumes nothing.
 use borrow.Author.Needs.{needs}
-use native.Mathlib.Omega.{arith}
-use mathlib.Core.Path.{_≡_, ap, _∙_}
-use mathlib.Core.List.{List}
+use mathlib.Core.Path.{ap, _∙_}
 use Rattle.rinnamoyle.specs.declared.LoginTold.{LoginTold}
 use Rattle.rinnamoyle.specs.Host.{hosted}
 use Rattle.rinnamoyle.proofs.rinnamoyle_login.Statement.{statement}

@@ -2,9 +2,7 @@
 -- Assumes nothing.
 use borrow.Author.Needs.{needs}
 use native.Mathlib.Omega.{arith}
-use mathlib.Core.Path.{_≡_, ap, _∙_}
-use Prim.Native.Nat.{_^_, _<_}
-use Rattle.text.specs.Login.{Reading}
+use mathlib.Core.Path.{ap, _∙_}
 use Rattle.text.proofs.Splits.{within}
 use Rattle.rinnamoyle.specs.Host.{textTold}
 use Rattle.rinnamoyle.proofs.rinnamoyle_text_read.Statement.{statement}

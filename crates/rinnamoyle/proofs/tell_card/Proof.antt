@@ -1,7 +1,6 @@
 -- `rinnamoyle::tell_card` meets its contract: the paper's numbers of each answer.
 -- Assumes nothing.
 use borrow.Author.Needs.{needs}
-use native.Mathlib.Omega.{arith}
 use Rattle.rinnamoyle.proofs.tell_card.Statement.{statement}
 use Rattle.rinnamoyle.proofs.tell_card.Tie as tie
 

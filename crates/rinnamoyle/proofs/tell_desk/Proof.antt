@@ -1,7 +1,6 @@
 -- `rinnamoyle::tell_desk` meets its contract: the paper's numbers of each answer.
 -- Assumes nothing.
 use borrow.Author.Needs.{needs}
-use native.Mathlib.Omega.{arith}
 use mathlib.Core.Path.{_∙_}
 use Rattle.rinnamoyle.proofs.tell_desk.Statement.{statement}
 use Rattle.rinnamoyle.proofs.tell_desk.Tie as tie

@@ -1,7 +1,6 @@
 -- `rinnamoyle::tell_login` meets its contract: the paper's numbers of each answer.
 -- Assumes nothing.
 use borrow.Author.Needs.{needs}
-use native.Mathlib.Omega.{arith}
 use Rattle.rinnamoyle.proofs.tell_login.Statement.{statement}
 use Rattle.rinnamoyle.proofs.tell_login.Tie as tie
 

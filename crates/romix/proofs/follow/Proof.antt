@@ -2,11 +2,11 @@
 -- Assumes nothing.
 use borrow.Author.Needs.{needs}
 use native.Mathlib.Omega.{arith}
-use mathlib.Core.Path.{_≡_, ap, _∙_}
+use mathlib.Core.Path.{_∙_}
 use native.Mathlib.Nat.{add-zero}
 use borrow.Author.Tests.{lt-ltb, le-ltb}
 use Rattle.romix.proofs.Blocks.{blocks-few}
-use Rattle.romix.specs.Machine.{followed, loaded}
+use Rattle.romix.specs.Machine.{followed}
 use Rattle.romix.proofs.follow.Statement.{statement}
 use Rattle.romix.proofs.follow.Tie as tie
 

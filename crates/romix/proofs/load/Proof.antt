@@ -2,11 +2,10 @@
 -- Assumes nothing.
 use borrow.Author.Needs.{needs}
 use native.Mathlib.Omega.{arith}
-use Prim.Native.Nat.{_+_}
-use mathlib.Core.Path.{_≡_, ap, _∙_}
+use mathlib.Core.Path.{_∙_}
 use native.Mathlib.Nat.{add-zero}
 use Rattle.romix.proofs.Blocks.{blocks-few, get-put-other, length-get}
-use Rattle.romix.specs.Machine.{put, get, loaded}
+use Rattle.romix.specs.Machine.{get, loaded}
 use Rattle.romix.proofs.load.Statement.{statement}
 use Rattle.romix.proofs.load.Tie as tie
 

@@ -4,7 +4,7 @@ use borrow.Author.Needs.{needs}
 use native.Mathlib.Omega.{arith}
 use mathlib.Core.Path.{_≡_, sym, ap, _∙_}
 use mathlib.Core.List.{List}
-use Prim.Native.Nat.{ℕ, _+_, _*_, _^_, _≤_, _<_}
+use Prim.Native.Nat.{ℕ, _+_, _*_, _≤_}
 use Rattle.lent.proofs.Tabs.{part-joined, joined-ext}
 use Rattle.romix.specs.declared.State.{State}
 use Rattle.romix.specs.Machine.{opening, get, loaded, clean, after}

@@ -1,7 +1,6 @@
 -- `romix::reach` meets its contract: a test for each answer.
 -- Assumes nothing.
 use borrow.Author.Needs.{needs}
-use native.Mathlib.Omega.{arith}
 use borrow.Author.Tests.{eq-eqb, ne-eqb}
 use Rattle.romix.proofs.reach.Statement.{statement}
 use Rattle.romix.proofs.reach.Tie as tie

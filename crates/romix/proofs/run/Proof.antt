@@ -5,7 +5,6 @@ use native.Mathlib.Omega.{arith}
 use mathlib.Core.Path.{_≡_, refl, sym, ap, _∙_}
 use Prim.Native.Nat.{ℕ, _≤_, _<_}
 use Rattle.romix.proofs.Steps.{Running, running-more, after-done}
-use Rattle.romix.specs.declared.State.{State}
 use Rattle.romix.specs.Machine.{after, clean}
 use Rattle.romix.proofs.run.Statement.{statement}
 use Rattle.romix.proofs.run.Tie as tie

@@ -2,13 +2,11 @@
 -- Assumes nothing.
 use borrow.Author.Needs.{needs}
 use native.Mathlib.Omega.{arith}
-use mathlib.Core.Path.{_≡_, ap, _∙_}
+use mathlib.Core.Path.{_∙_}
 use native.Mathlib.Nat.{one-mul}
 use borrow.Author.Tests.{eq-eqb, ne-eqb}
 use Rattle.romix.proofs.Blocks.{blocks-few}
-use Rattle.lent.specs.Bytes.{zeros}
-use lib.Seq.{sets}
-use Rattle.romix.specs.Machine.{settled, block}
+use Rattle.romix.specs.Machine.{settled}
 use Rattle.romix.proofs.settle.Statement.{statement}
 use Rattle.romix.proofs.settle.Tie as tie
 

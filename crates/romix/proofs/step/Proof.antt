@@ -2,11 +2,10 @@
 -- Assumes nothing.
 use borrow.Author.Needs.{needs}
 use native.Mathlib.Omega.{arith}
-use mathlib.Core.Path.{_≡_, sym, ap, ap₂, _∙_}
+use mathlib.Core.Path.{sym, ap, ap₂, _∙_}
 use mathlib.Core.List.{List}
-use Prim.Native.Nat.{ℕ, _%_}
-use native.Mathlib.Nat.{mod-lt, lt-of-lt-of-le, le-of-lt, lt-trans}
-use Rattle.romix.proofs.Blocks.{blocks-few}
+use Prim.Native.Nat.{ℕ}
+use native.Mathlib.Nat.{mod-lt, lt-trans}
 use Rattle.romix.proofs.Clean.{get-clean}
 use Rattle.romix.proofs.Steps.{some-stored, next-first, next-forward, next-second, next-finished, clean-finished}
 use Rattle.romix.specs.ROMix.{place}

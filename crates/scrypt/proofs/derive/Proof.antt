@@ -1,8 +1,7 @@
 -- `scrypt::derive` meets its contract: the plan decides, and each of its answers is one way out.
 -- Assumes nothing.
 use borrow.Author.Needs.{needs}
-use native.Mathlib.Omega.{arith}
-use mathlib.Core.Path.{_≡_, sym, ap, ap₂, _∙_}
+use mathlib.Core.Path.{sym, ap, ap₂, _∙_}
 use Prim.Native.Nat.{ℕ}
 use mathlib.Core.List.{List}
 use Rattle.scrypt.specs.declared.Answer.the-variants.{Derived}

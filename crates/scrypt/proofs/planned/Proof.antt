@@ -1,12 +1,8 @@
 -- `scrypt::planned` meets its contract: a test for each way out, in the paper's order.
 -- Assumes nothing.
 use borrow.Author.Needs.{needs}
-use native.Mathlib.Omega.{arith}
-use mathlib.Core.Path.{_≡_, sym, ap, subst, _∙_}
-use Prim.Native.Nat.{ℕ}
+use mathlib.Core.Path.{sym, ap, subst, _∙_}
 use borrow.Author.Tests.{lt-leb, le-leb}
-use Rattle.cost.specs.declared.Cost.{Cost}
-use Rattle.cost.specs.declared.Checked.{Checked}
 use Rattle.cost.proofs.Goods.{Sound, good-means}
 use Rattle.scrypt.specs.Plans.{planOf, priced}
 use Rattle.scrypt.proofs.planned.Statement.{statement}

@@ -3,14 +3,13 @@
 use borrow.Author.Needs.{needs}
 use native.Mathlib.Omega.{arith}
 use mathlib.Core.Path.{_≡_, ap, ap₂, _∙_}
-use Prim.Native.Nat.{ℕ, _*_, _+_, _≤_}
+use Prim.Native.Nat.{ℕ, _*_}
 use mathlib.Core.List.{List}
 use lib.ListN.{length}
-use lib.Seq.{sets}
 use Rattle.lent.specs.Bytes.{part, zeros, joined}
 use Rattle.romix.specs.ROMix.{roMix, sum, mixings}
 use Rattle.pbkdf2.specs.Pbkdf2.{pbkdf2}
-use Rattle.scrypt.specs.Scrypt.{lanes, mixedLanes, scrypt}
+use Rattle.scrypt.specs.Scrypt.{lanes, scrypt}
 use Rattle.scrypt.proofs.Ahead.{plan-means, plan-fits, lanes-fit}
 use Rattle.scrypt.proofs.Lanes.{lanes-counted, lanes-mixed}
 use Rattle.scrypt.proofs.work.Statement.{statement}

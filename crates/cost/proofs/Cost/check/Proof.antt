@@ -1,8 +1,7 @@
 -- `cost::Cost::check` meets its contract: a test for each way out, in the paper's order.
 -- Assumes nothing.
 use borrow.Author.Needs.{needs}
-use native.Mathlib.Omega.{arith}
-use mathlib.Core.Path.{_≡_, sym, _∙_}
+use mathlib.Core.Path.{sym, _∙_}
 use borrow.Author.Tests.{not-true, not-false}
 use Rattle.cost.proofs.Powers.{within-means}
 use Rattle.cost.specs.Limits.{mostR}

@@ -1,6 +1,6 @@
 -- `cost::Cost::of_exponent` meets its contract: what the conversion answers says whether the exponent passed.
 -- Assumes nothing.
-use mathlib.Core.Path.{_≡_, sym, ap, _∙_}
+use mathlib.Core.Path.{sym, ap, _∙_}
 use borrow.Author.Needs.{needs}
 use Rattle.cost.specs.Costs.{checkedExponent, checkedPower}
 use Rattle.cost.specs.declared.Converted.{Converted}

@@ -2,8 +2,8 @@
 -- Assumes nothing.
 use borrow.Author.Needs.{needs}
 use native.Mathlib.Omega.{arith}
-use mathlib.Core.Path.{_≡_, ap, sym, _∙_}
-use Prim.Native.Nat.{ℕ, _<_}
+use mathlib.Core.Path.{sym, _∙_}
+use Prim.Native.Nat.{_<_}
 use Rattle.cost.proofs.Powers.{within-means, shifted}
 use Rattle.cost.specs.Limits.{mostExponent}
 use Rattle.cost.specs.Costs.{powerOf}
