@@ -107,20 +107,17 @@ def main():
     show_card("none", b"")
     for n in 11, 12, 35:
         show_card(f"last {n}", WHOLE[-n:])
-    layouts = (35, 0x44), (35, 0x32), (28, 2), (26, 15), (26, 17), (26, 65), (24, 15), (24, 25), (25, 255)
-    costs = (29, 0), (29, 15), (29, 16), (29, 200), (30, 0), (30, 255), (31, 0), (31, 255)
+    layouts = (35, 0x44), (28, 2), (26, 15), (24, 15), (24, 25), (25, 255)
+    costs = (29, 0), (29, 15), (29, 16), (29, 200), (30, 0), (31, 0)
     for at, byte in layouts + costs:
         show_card(f"byte {at} is {byte}", changed((at, byte)))
     wrong = [(35, 0), (28, 3), (26, 0), (29, 200)]
     for n in range(4):
         show_card(f"from {22 + n}", changed(*wrong[n:]))
-    show_card("two", WHOLE + WHOLE)
+    show_card("behind", b"\0" + WHOLE)
     show_write(8, 4, 1, 40)
-    show_write(8, 4, 1, 36)
     show_write(8, 4, 1, 35)
     show_write(8, 200, 1, 0)
-    show_write(8, 0, 1, 40)
-    show_write(8, 16, 1, 40)
     show_write(8, 16, 2, 40)
     show_write(8, 4, 257, 40)
     show_write(7, 200, 1, 0)
