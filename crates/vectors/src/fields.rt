@@ -44,7 +44,7 @@ fn word(line: &[u8], i: usize) -> &[u8] {
     &line[at..end]
 }
 
-fn spaces(line: &[u8]) -> usize {
+pub fn spaces(line: &[u8]) -> usize {
     let mut n: usize = 0;
     let mut i = 0;
     while i < line.len() {
@@ -56,12 +56,21 @@ fn spaces(line: &[u8]) -> usize {
     n
 }
 
-// Whether the line is that call with so many fields.
-pub fn calls(line: &[u8], name: &[u8], fields: usize) -> bool {
-    if !lent::same(word(line, 0), name) {
+// Whether the line has the entry's name and its number of fields.
+pub fn is_like(line: &[u8], entry: &[u8]) -> bool {
+    if !lent::same(word(line, 0), word(entry, 0)) {
         return false;
     }
-    spaces(line) == fields
+    spaces(line) == spaces(entry)
+}
+
+// The first letter of word i, or 0.
+pub fn letter(line: &[u8], i: usize) -> u8 {
+    let w = word(line, i);
+    if w.len() == 0 {
+        return 0;
+    }
+    w[0]
 }
 
 // What a digit stands for, in decimal or lower hexadecimal; 16 for any other byte.
@@ -111,15 +120,13 @@ pub fn number(line: &[u8], i: usize, good: &mut bool) -> u64 {
     decimal(word(line, i), good)
 }
 
-// The LENGTH that word i says.
-pub fn size(line: &[u8], i: usize, most: usize, good: &mut bool) -> usize
-    ensures { λ n. ⌜ n ≤ most ⌝ }
-{
+// The LENGTH that word i says, of a room that is no longer than most.
+pub fn size(line: &[u8], i: usize, most: u64, good: &mut bool) -> u64 {
     let n = number(line, i, good);
-    if (most as u64) < n {
-        return bad(good) as usize;
+    if most < n {
+        return bad(good);
     }
-    n as usize
+    n
 }
 
 // How many bytes the hexadecimal digits say; 0 if they are none, odd, or something else.
@@ -191,7 +198,6 @@ fn total(unit: usize, times: u64, most: usize, good: &mut bool) -> usize
 // Lays the bytes that w begins with down so many times.
 fn lay(w: &[u8], unit: usize, times: u64, room: &mut [u8], good: &mut bool) -> usize
     requires { ⌜ 2 * unit ≤ length (now w) ⌝ }
-    ensures { λ n. ⌜ (n ≤ length (now (room .entry))) × (length (now (room .exit)) ≡ length (now (room .entry))) ⌝ }
 {
     if unit == 0 {
         return bad(good) as usize;
@@ -202,9 +208,7 @@ fn lay(w: &[u8], unit: usize, times: u64, room: &mut [u8], good: &mut bool) -> u
 }
 
 // The BYTES that word i says, at the front of the room, and how many they are.
-pub fn bytes(line: &[u8], i: usize, room: &mut [u8], good: &mut bool) -> usize
-    ensures { λ n. ⌜ (n ≤ length (now (room .entry))) × (length (now (room .exit)) ≡ length (now (room .entry))) ⌝ }
-{
+pub fn bytes(line: &[u8], i: usize, room: &mut [u8], good: &mut bool) -> usize {
     let w = word(line, i);
     if lent::same(w, b"-") {
         return 0;

@@ -1,30 +1,27 @@
 // SHA-256, HMAC and PBKDF2.
 ghost use Prim.Native.Nat.{_≤_};
 ghost use lib.ListN.{length};
-use crate::fields;
 use crate::say;
 
-fn say_hash(m: &[u8])
+pub fn hash(m: &[u8])
     requires { ⌜ length (now m) ≤ 1048576 ⌝ }
 {
     let mut d = [0u8; 32];
     sha256::hash(m, &mut d, 0);
-    say::bytes(b"sha256 ", &d);
-    say::end();
+    say::line(b"sha256 ", &d);
 }
 
-fn hash_in(line: &[u8], room: &mut [u8; 1048576]) {
-    let mut good = true;
-    let n = fields::bytes(line, 1, room, &mut good);
-    if !good {
-        say::malformed();
-        return;
-    }
-    let all = &room[..];
-    say_hash(&all[0..n]);
+pub fn mac(key: &[u8], text: &[u8])
+    requires { ⌜ (length (now key) ≤ 1048576) × (length (now text) ≤ 4096) ⌝ }
+{
+    let mut d = [0u8; 32];
+    pbkdf2::hmac(key, text, &mut d, 0);
+    say::line(b"hmac ", &d);
 }
 
-pub fn hash(line: &[u8]) {
-    let mut room = [0u8; 1048576];
-    hash_in(line, &mut room);
+pub fn derive(pass: &[u8], salt: &[u8], out: &mut [u8])
+    requires { ⌜ (length (now pass) ≤ 1048576) × (length (now salt) ≤ 4096) × (length (now out) ≤ 4096) ⌝ }
+{
+    pbkdf2::pbkdf2(pass, salt, out);
+    say::line(b"pbkdf2 ", out);
 }

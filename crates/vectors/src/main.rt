@@ -3,24 +3,15 @@
 ghost use Prim.Native.Nat.{_<_};
 ghost use lib.ListN.{length};
 
-mod derivations;
+mod asked;
+mod calls;
+mod desks;
 mod fields;
 mod hashes;
+mod mixes;
 mod say;
 
 use libc::STDIN_FILENO;
-
-fn answered(line: &[u8]) -> bool {
-    if fields::calls(line, b"sha256", 1) {
-        hashes::hash(line);
-        return true;
-    }
-    if fields::calls(line, b"derive", 8) {
-        derivations::derive(line);
-        return true;
-    }
-    false
-}
 
 // Empty lines and headings are written as they are.
 fn is_case(line: &[u8]) -> bool {
@@ -31,14 +22,12 @@ fn is_case(line: &[u8]) -> bool {
 }
 
 fn answer(line: &[u8]) {
-    if !is_case(line) {
-        say::word(line);
-        say::end();
+    if is_case(line) {
+        calls::answer(line);
         return;
     }
-    if !answered(line) {
-        say::malformed();
-    }
+    say::word(line);
+    say::end();
 }
 
 fn answer_all(input: &[u8])

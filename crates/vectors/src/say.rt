@@ -61,3 +61,9 @@ pub fn buffer(label: &[u8], s: &[u8]) {
     }
     hex(s);
 }
+
+// A line of a label and bytes.
+pub fn line(label: &[u8], s: &[u8]) {
+    bytes(label, s);
+    end();
+}
