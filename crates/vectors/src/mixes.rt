@@ -1,7 +1,8 @@
 // Salsa20/8, BlockMix, ROMix and the derivation.
 ghost use mathlib.Core.Path.{_≡_};
-ghost use Prim.Native.Nat.{_+_, _*_, _%_, _^_, _≤_, _<_};
+ghost use Prim.Native.Nat.{_*_, _%_, _≤_};
 ghost use lib.ListN.{length};
+ghost use Rattle.romix.specs.Machine.{Fit, opening};
 use crate::asked::Asked;
 use crate::say;
 use cost::Cost;
@@ -18,45 +19,98 @@ pub fn core(x: &[u8]) {
     say::line(b"salsa ", &y);
 }
 
-fn mix_block(r: usize, block: &[u8], s: &mut [u8])
-    requires { ⌜ (1 ≤ r) × (r ≤ 32) × (length (now block) ≡ 128 * r) × (256 * r ≤ length (now s)) ⌝ }
+// r, where the block has its 128·r bytes and twice that fits in the room; else 0.
+fn size(r: u64, block: &[u8], room: usize) -> usize
+    ensures { λ x. ⌜ (x ≤ 32) × (128 * x ≤ length (now (block .entry))) × (256 * x ≤ room) ⌝ }
 {
+    if 32 < r {
+        return 0;
+    }
+    if block.len() as u64 != 128 * r {
+        return 0;
+    }
+    if (room as u64) < 256 * r {
+        return 0;
+    }
+    r as usize
+}
+
+pub fn block(q: Asked, block: &[u8], s: &mut [u8]) {
+    let r = size(q.r, block, s.len());
+    if r == 0 {
+        say::malformed();
+        return;
+    }
     let half = 128 * r;
     let end = 256 * r;
-    lent::copy(s, 0, block);
+    lent::copy(s, 0, &block[0..half]);
     mixing::block_mix(s, 0, half, r);
     say::line(b"blockmix ", &s[half..end]);
 }
 
-fn answer_block(r: usize, block: &[u8], s: &mut [u8])
-    requires { ⌜ (1 ≤ r) × (r ≤ 32) ⌝ }
+fn mix_lane(n: usize, r: usize, k: usize, w: usize, s: &mut [u8])
+    requires { ⌜ Fit (opening n r 1 k w) (length (now s)) × (n ≤ 1048576) × (k ≤ n) × (128 * r ≤ length (now s)) ⌝ }
 {
-    if block.len() != 128 * r {
-        say::malformed();
-        return;
-    }
-    if s.len() < 256 * r {
-        say::malformed();
-        return;
-    }
-    mix_block(r, block, s);
+    let made = romix::mix_lanes(n, r, 1, k, w, s, 0xffff_ffff_ffff_ffff);
+    let end = 128 * r;
+    say::number(b"romix mixings ", made);
+    say::line(b" lane ", &s[0..end]);
 }
 
-pub fn block(q: Asked, block: &[u8], s: &mut [u8]) {
-    let r = q.r as usize;
-    if r < 1 {
+// How many blocks are stored of n, one in k.
+fn stored(n: usize, k: usize) -> usize
+    requires { ⌜ (1 ≤ k) × (k ≤ n) × (n ≤ 1048576) ⌝ }
+    ensures { λ w. ⌜ (n ≤ w * k) × (w ≤ 1048576) ⌝ }
+{
+    (n - 1) / k + 1
+}
+
+// Beside the stored blocks ROMix wants four.
+fn store(n: usize, r: usize, k: usize, block: &[u8], s: &mut [u8])
+    requires { ⌜ (1 ≤ r) × (r ≤ 32) × (128 * r ≤ length (now block)) × (128 * r ≤ length (now s))
+        × (1 ≤ k) × (k ≤ n) × (n ≤ 1048576) × (4294967296 % n ≡ 0) ⌝ }
+{
+    let w = stored(n, k);
+    let end = 128 * r;
+    if s.len() / end < w + 4 {
         say::malformed();
         return;
     }
-    if 32 < r {
+    lent::copy(s, 0, &block[0..end]);
+    mix_lane(n, r, k, w, s);
+}
+
+// N is a power of two where it divides 2^32.
+fn space(n: usize, r: usize, k: usize, block: &[u8], s: &mut [u8])
+    requires { ⌜ (1 ≤ r) × (r ≤ 32) × (128 * r ≤ length (now block)) × (128 * r ≤ length (now s))
+        × (1 ≤ k) × (n ≤ 1048576) ⌝ }
+{
+    if n < k {
         say::malformed();
         return;
     }
-    answer_block(r, block, s);
+    if 4294967296 % n != 0 {
+        say::malformed();
+        return;
+    }
+    store(n, r, k, block, s);
 }
 
 pub fn lane(q: Asked, block: &[u8], s: &mut [u8]) {
-    say::malformed();
+    let r = size(q.r, block, s.len());
+    if r == 0 {
+        say::malformed();
+        return;
+    }
+    if q.k == 0 {
+        say::malformed();
+        return;
+    }
+    if 1048576 < q.n {
+        say::malformed();
+        return;
+    }
+    space(q.n as usize, r, q.k as usize, block, s);
 }
 
 fn say_numbers(no: u64, spacing: u64, stored: u64, mixings: u64) {
