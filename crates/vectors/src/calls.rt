@@ -23,47 +23,23 @@ const CALLS: [u8; 135] = *b"\
     text a\n\
     login a b s m\n";
 
-// Hashes, by their place in CALLS.
-fn run_hash(call: usize, a: &[u8], b: &[u8], out: &mut [u8])
+// Runs a call by its place in CALLS, and says whether the line was well formed.
+fn run(call: usize, q: Asked, a: &[u8], b: &[u8], out: &mut [u8], scratch: &mut [u8]) -> bool
     requires { ⌜ (length (now a) ≤ 1048576) × (length (now b) ≤ 4096) × (length (now out) ≤ 4096) ⌝ }
 {
     match call {
         0 => hashes::hash(a),
         1 => hashes::mac(a, b),
-        _ => hashes::derive(a, b, out),
-    }
-}
-
-fn run_mix(call: usize, q: Asked, a: &[u8], b: &[u8], out: &mut [u8], scratch: &mut [u8]) {
-    match call {
+        2 => hashes::derive(a, b, out),
         3 => mixes::core(a),
         4 => mixes::block(q, a, scratch),
         5 => mixes::lane(q, a, scratch),
-        _ => mixes::derive(q, a, b, out, scratch),
-    }
-}
-
-fn run_desk(call: usize, q: Asked, a: &[u8], b: &[u8], out: &mut [u8], scratch: &mut [u8]) {
-    match call {
+        6 => mixes::derive(q, a, b, out, scratch),
         7 => desks::card(a),
         8 => desks::write(q, a, b, out),
         9 => desks::text(a),
         _ => desks::login(q, a, b, scratch),
     }
-}
-
-fn run(call: usize, q: Asked, a: &[u8], b: &[u8], out: &mut [u8], scratch: &mut [u8])
-    requires { ⌜ (length (now a) ≤ 1048576) × (length (now b) ≤ 4096) × (length (now out) ≤ 4096) ⌝ }
-{
-    if call < 3 {
-        run_hash(call, a, b, out);
-        return;
-    }
-    if call < 7 {
-        run_mix(call, q, a, b, out, scratch);
-        return;
-    }
-    run_desk(call, q, a, b, out, scratch);
 }
 
 fn least(x: u64, most: usize) -> usize
@@ -80,34 +56,33 @@ fn front(s: &[u8], n: u64) -> &[u8]
     &s[0..end]
 }
 
-fn lend(call: usize, q: Asked, a: &[u8], b: &[u8])
+fn lend(call: usize, q: Asked, a: &[u8], b: &[u8]) -> bool
     requires { ⌜ (length (now a) ≤ 1048576) × (length (now b) ≤ 4096) ⌝ }
 {
     let mut out = [0xa5u8; 4096];
     let mut scratch = [0xa5u8; 65536];
     let o = least(q.o, 4096);
     let s = least(q.s, 65536);
-    run(call, q, a, b, &mut out[0..o], &mut scratch[0..s]);
+    run(call, q, a, b, &mut out[0..o], &mut scratch[0..s])
 }
 
-fn take(call: usize, line: &[u8], entry: &[u8], a: &mut [u8; 1048576], b: &mut [u8; 4096]) {
+fn take(call: usize, line: &[u8], entry: &[u8], a: &mut [u8; 1048576], b: &mut [u8; 4096]) -> bool {
     let mut good = true;
     let q = asked::read(line, entry, a, b, &mut good);
     if !good {
-        say::malformed();
-        return;
+        return false;
     }
-    lend(call, q, front(&a[..], q.a), front(&b[..], q.b));
+    lend(call, q, front(&a[..], q.a), front(&b[..], q.b))
 }
 
-fn answer_by(call: usize, line: &[u8], entry: &[u8]) {
+fn answered_by(call: usize, line: &[u8], entry: &[u8]) -> bool {
     let mut a = [0u8; 1048576];
     let mut b = [0u8; 4096];
-    take(call, line, entry, &mut a, &mut b);
+    take(call, line, entry, &mut a, &mut b)
 }
 
-// Looks the line up in the table.
-fn look_up(line: &[u8], table: &[u8])
+// Answers a line that the table has, or says that it is malformed.
+fn answered(line: &[u8], table: &[u8]) -> bool
     requires { ⌜ length (now table) < 1000 ⌝ }
 {
     let mut call = 0;
@@ -115,15 +90,16 @@ fn look_up(line: &[u8], table: &[u8])
     while at < table.len() {
         let end = fields::find(table, at, b'\n');
         if fields::is_like(line, &table[at..end]) {
-            answer_by(call, line, &table[at..end]);
-            return;
+            return answered_by(call, line, &table[at..end]);
         }
         call += 1;
         at = end + 1;
     }
-    say::malformed();
+    false
 }
 
 pub fn answer(line: &[u8]) {
-    look_up(line, &CALLS);
+    if !answered(line, &CALLS) {
+        say::word(b"malformed\n");
+    }
 }

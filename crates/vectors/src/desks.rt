@@ -8,40 +8,35 @@ use login::Desk;
 use login::Login;
 use text::Text;
 
-fn say_meaning(no: u64, exponent: u64, r: u64, p: u64) {
-    say::number(b"card ", no);
-    say::number(b" exponent ", exponent);
-    say::number(b" r ", r);
-    say::number(b" p ", p);
-}
-
 fn say_card(card: &[u8]) {
     match card::read(card) {
-        Card::Good(m) => say_meaning(0, m.exponent.number(), m.r, m.p),
-        Card::Refused(why) => say_meaning(card::reason_number(why), 0, 0, 0),
+        Card::Good(m) => say::numbers(b"card exponent r p", &[0, m.exponent.number(), m.r, m.p]),
+        Card::Refused(why) => say::numbers(
+            b"card exponent r p",
+            &[card::reason_number(why), 0, 0, 0],
+        ),
     }
 }
 
-pub fn card(card: &[u8]) {
+pub fn card(card: &[u8]) -> bool {
     say_card(card);
-    say::bytes(b" salt ", card::salt(card));
+    say::bytes(b"salt ", card::salt(card));
     say::bytes(b" key ", card::key(card));
     say::number(b" claims ", card::claimed(card) as u64);
-    say::end();
+    say::end()
 }
 
-fn say_written(no: u64, length: u64) {
-    say::number(b"write ", no);
-    say::number(b" length ", length);
-}
-
-pub fn write(q: Asked, salt: &[u8], key: &[u8], room: &mut [u8]) {
-    match card::write(salt, key, Exponent::new(q.n), q.r, q.p, room) {
-        Written::Length(n) => say_written(0, n as u64),
-        Written::Refused(why) => say_written(card::reason_number(why), 0),
+fn say_written(w: Written) {
+    match w {
+        Written::Length(n) => say::numbers(b"write length", &[0, n as u64]),
+        Written::Refused(why) => { say::numbers(b"write length", &[card::reason_number(why), 0]) }
     }
-    say::buffer(b" room ", room);
-    say::end();
+}
+
+pub fn write(q: Asked, salt: &[u8], key: &[u8], room: &mut [u8]) -> bool {
+    say_written(card::write(salt, key, Exponent::new(q.n), q.r, q.p, room));
+    say::buffer(b"room ", room);
+    say::end()
 }
 
 fn say_text(text: &[u8]) {
@@ -51,11 +46,11 @@ fn say_text(text: &[u8]) {
     }
 }
 
-pub fn text(text: &[u8]) {
+pub fn text(text: &[u8]) -> bool {
     say_text(text);
     say::bytes(b" user ", text::user(text));
     say::bytes(b" password ", text::password(text));
-    say::end();
+    say::end()
 }
 
 fn say_desk(d: Desk) {
@@ -74,10 +69,10 @@ fn say_login(x: Login) {
     }
 }
 
-pub fn login(q: Asked, text: &[u8], card: &[u8], scratch: &mut [u8]) {
+pub fn login(q: Asked, text: &[u8], card: &[u8], scratch: &mut [u8]) -> bool {
     let x = login::check(text, card, scratch, q.m);
     say::word(b"login ");
     say_login(x);
     say::buffer(b" scratch ", scratch);
-    say::end();
+    say::end()
 }

@@ -38,7 +38,7 @@ fn start(line: &[u8], i: usize) -> usize
 }
 
 // Word i, the call's name being word 0; empty if there is none.
-fn word(line: &[u8], i: usize) -> &[u8] {
+pub fn word(line: &[u8], i: usize) -> &[u8] {
     let at = start(line, i);
     let end = find(line, at, b' ');
     &line[at..end]

@@ -9,14 +9,13 @@ use cost::Cost;
 use cost::Power;
 use scrypt::Answer;
 
-pub fn core(x: &[u8]) {
+pub fn core(x: &[u8]) -> bool {
     if x.len() != 64 {
-        say::malformed();
-        return;
+        return false;
     }
     let mut y = [0u8; 64];
     salsa::store(&mut y, 0, salsa::core(salsa::load(x, 0)));
-    say::line(b"salsa ", &y);
+    say::answer(b"salsa ", &y)
 }
 
 // r, where the block has its 128·r bytes and twice that fits in the room; else 0.
@@ -35,26 +34,25 @@ fn size(r: u64, block: &[u8], room: usize) -> usize
     r as usize
 }
 
-pub fn block(q: Asked, block: &[u8], s: &mut [u8]) {
+pub fn block(q: Asked, block: &[u8], s: &mut [u8]) -> bool {
     let r = size(q.r, block, s.len());
     if r == 0 {
-        say::malformed();
-        return;
+        return false;
     }
     let half = 128 * r;
     let end = 256 * r;
     lent::copy(s, 0, &block[0..half]);
     mixing::block_mix(s, 0, half, r);
-    say::line(b"blockmix ", &s[half..end]);
+    say::answer(b"blockmix ", &s[half..end])
 }
 
-fn mix_lane(n: usize, r: usize, k: usize, w: usize, s: &mut [u8])
+fn mix_lane(n: usize, r: usize, k: usize, w: usize, s: &mut [u8]) -> bool
     requires { ⌜ Fit (opening n r 1 k w) (length (now s)) × (n ≤ 1048576) × (k ≤ n) × (128 * r ≤ length (now s)) ⌝ }
 {
     let made = romix::mix_lanes(n, r, 1, k, w, s, 0xffff_ffff_ffff_ffff);
     let end = 128 * r;
     say::number(b"romix mixings ", made);
-    say::line(b" lane ", &s[0..end]);
+    say::answer(b" lane ", &s[0..end])
 }
 
 // How many blocks are stored of n, one in k.
@@ -66,79 +64,72 @@ fn stored(n: usize, k: usize) -> usize
 }
 
 // Beside the stored blocks ROMix wants four.
-fn store(n: usize, r: usize, k: usize, block: &[u8], s: &mut [u8])
+fn store(n: usize, r: usize, k: usize, block: &[u8], s: &mut [u8]) -> bool
     requires { ⌜ (1 ≤ r) × (r ≤ 32) × (128 * r ≤ length (now block)) × (128 * r ≤ length (now s))
         × (1 ≤ k) × (k ≤ n) × (n ≤ 1048576) × (4294967296 % n ≡ 0) ⌝ }
 {
     let w = stored(n, k);
     let end = 128 * r;
     if s.len() / end < w + 4 {
-        say::malformed();
-        return;
+        return false;
     }
     lent::copy(s, 0, &block[0..end]);
-    mix_lane(n, r, k, w, s);
+    mix_lane(n, r, k, w, s)
 }
 
 // N is a power of two where it divides 2^32.
-fn space(n: usize, r: usize, k: usize, block: &[u8], s: &mut [u8])
+fn space(n: usize, r: usize, k: usize, block: &[u8], s: &mut [u8]) -> bool
     requires { ⌜ (1 ≤ r) × (r ≤ 32) × (128 * r ≤ length (now block)) × (128 * r ≤ length (now s))
         × (1 ≤ k) × (n ≤ 1048576) ⌝ }
 {
     if n < k {
-        say::malformed();
-        return;
+        return false;
     }
     if 4294967296 % n != 0 {
-        say::malformed();
-        return;
+        return false;
     }
-    store(n, r, k, block, s);
+    store(n, r, k, block, s)
 }
 
-pub fn lane(q: Asked, block: &[u8], s: &mut [u8]) {
+pub fn lane(q: Asked, block: &[u8], s: &mut [u8]) -> bool {
     let r = size(q.r, block, s.len());
     if r == 0 {
-        say::malformed();
-        return;
+        return false;
     }
     if q.k == 0 {
-        say::malformed();
-        return;
+        return false;
     }
     if 1048576 < q.n {
-        say::malformed();
-        return;
+        return false;
     }
-    space(q.n as usize, r, q.k as usize, block, s);
+    space(q.n as usize, r, q.k as usize, block, s)
 }
 
-fn say_numbers(no: u64, spacing: u64, stored: u64, mixings: u64) {
-    say::number(b"derive ", no);
-    say::number(b" spacing ", spacing);
-    say::number(b" stored ", stored);
-    say::number(b" mixings ", mixings);
-}
-
-fn say_answer(a: Answer) {
+fn say_derived(a: Answer) {
     match a {
         Answer::Derived {
             spacing,
             stored,
             mixings,
-        } => say_numbers(0, spacing, stored, mixings),
-        Answer::Refused(why) => say_numbers(scrypt::reason_number(why), 0, 0, 0),
+        } => say::numbers(
+            b"derive spacing stored mixings",
+            &[0, spacing, stored, mixings],
+        ),
+        Answer::Refused(why) => say::numbers(
+            b"derive spacing stored mixings",
+            &[scrypt::reason_number(why), 0, 0, 0],
+        ),
     }
 }
 
-pub fn derive(q: Asked, pass: &[u8], salt: &[u8], key: &mut [u8], scratch: &mut [u8]) {
+pub fn derive(q: Asked, pass: &[u8], salt: &[u8], key: &mut [u8], scratch: &mut [u8]) -> bool {
     let c = Cost {
         n: Power::new(q.n),
         r: q.r,
         p: q.p,
     };
-    say_answer(scrypt::derive(pass, salt, c, key, scratch, q.m));
-    say::buffer(b" key ", key);
+    say_derived(scrypt::derive(pass, salt, c, key, scratch, q.m));
+    say::buffer(b"key ", key);
     say::buffer(b" scratch ", scratch);
-    say::end();
+    say::end()
 }

@@ -1,16 +1,15 @@
 // What is written to standard output.
+use crate::fields;
 use libc::STDOUT_FILENO;
 
 pub fn word(s: &[u8]) {
     io::write_all(STDOUT_FILENO, s);
 }
 
-pub fn end() {
+// The end of an answer: the line that was asked was well formed.
+pub fn end() -> bool {
     word(b"\n");
-}
-
-pub fn malformed() {
-    word(b"malformed\n");
+    true
 }
 
 // A label, and a number behind it.
@@ -62,8 +61,19 @@ pub fn buffer(label: &[u8], s: &[u8]) {
     hex(s);
 }
 
-// A line of a label and bytes.
-pub fn line(label: &[u8], s: &[u8]) {
+// A whole answer of a label and bytes.
+pub fn answer(label: &[u8], s: &[u8]) -> bool {
     bytes(label, s);
-    end();
+    end()
+}
+
+// Labels and numbers by turns, a space behind each.
+pub fn numbers(labels: &[u8], x: &[u64]) {
+    let mut i = 0;
+    while i < x.len() {
+        word(fields::word(labels, i));
+        number(b" ", x[i]);
+        word(b" ");
+        i += 1;
+    }
 }

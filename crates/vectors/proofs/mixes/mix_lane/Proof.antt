@@ -5,11 +5,6 @@ use native.Mathlib.Omega.{arith}
 use native.Mathlib.Nat.{mul-le-mul}
 use Rattle.vectors.proofs.mixes.mix_lane.Statement.{statement}
 use Rattle.vectors.proofs.mixes.mix_lane.Tie as tie
-use Rattle.vectors.proofs.mixes.mix_lane.Reads as reads
-use Rattle.vectors.proofs.mixes.mix_lane.Lts as lts
-use Rattle.romix.proofs.mix_lanes.Reads as mix-lanes-reads
-use Rattle.vectors.proofs.say.line.Reads as line-reads
-use Rattle.vectors.proofs.say.number.Reads as number-reads
 
 -- src/mixes.rt:54:9
 mix-lanes-requires : tie.Need-mix-lanes-requires
@@ -31,24 +26,24 @@ number-requires : tie.Need-number-requires
 number-requires c κs = search needs
 
 -- src/mixes.rt:57:15
-slice-aggregate-line : tie.Need-slice-aggregate-line
-slice-aggregate-line c = search needs
+slice-aggregate-answer : tie.Need-slice-aggregate-answer
+slice-aggregate-answer c = search needs
 
 -- src/mixes.rt:57:26
-sub-line : tie.Need-sub-line
-sub-line c = search needs
+sub-answer : tie.Need-sub-answer
+sub-answer c = search needs
 
 -- src/mixes.rt:57:26
-part-line-start : tie.Need-part-line-start
-part-line-start c = search needs
+part-answer-start : tie.Need-part-answer-start
+part-answer-start c = search needs
 
 -- src/mixes.rt:57:26
-part-line-end : tie.Need-part-line-end
-part-line-end c = search needs
+part-answer-end : tie.Need-part-answer-end
+part-answer-end c = search needs
 
 -- src/mixes.rt:57:5
-line-requires : tie.Need-line-requires
-line-requires c κs = search needs
+answer-requires : tie.Need-answer-requires
+answer-requires c κs = search needs
 
 -- src/mixes.rt:51:1
 same-length : tie.Need-same-length
@@ -66,10 +61,10 @@ mix-lane-spec =
     mul-end
     slice-aggregate-number
     number-requires
-    slice-aggregate-line
-    sub-line
-    part-line-start
-    part-line-end
-    line-requires
+    slice-aggregate-answer
+    sub-answer
+    part-answer-start
+    part-answer-end
+    answer-requires
     same-length
     returns)

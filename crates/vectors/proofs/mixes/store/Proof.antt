@@ -6,12 +6,6 @@ use native.Mathlib.Omega.{arith}
 use native.Mathlib.Nat.{le-div-iff-mul-le}
 use Rattle.vectors.proofs.mixes.store.Statement.{statement}
 use Rattle.vectors.proofs.mixes.store.Tie as tie
-use Rattle.vectors.proofs.mixes.store.Reads as reads
-use Rattle.vectors.proofs.mixes.store.Lts as lts
-use Rattle.lent.proofs.copy.Reads as copy-reads
-use Rattle.vectors.proofs.mixes.mix_lane.Reads as mix-lane-reads
-use Rattle.vectors.proofs.mixes.stored.Reads as stored-reads
-use Rattle.vectors.proofs.say.malformed.Reads as malformed-reads
 
 -- src/mixes.rt:73:9
 stored-requires : tie.Need-stored-requires
@@ -28,10 +22,6 @@ div-if1 c = search needs
 -- src/mixes.rt:75:24
 add-if1 : tie.Need-add-if1
 add-if1 c = search needs
-
--- src/mixes.rt:76:9
-malformed-requires : tie.Need-malformed-requires
-malformed-requires c κs = search needs
 
 -- src/mixes.rt:77:9
 returns : tie.Need-returns
@@ -78,7 +68,6 @@ store-spec =
     mul-end
     div-if1
     add-if1
-    malformed-requires
     returns
     sub-copy
     part-copy-start
