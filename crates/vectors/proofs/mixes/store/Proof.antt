@@ -1,6 +1,8 @@
 -- `vectors::mixes::store` meets its contract. Assumes nothing.
 use borrow.Author.Needs.{needs}
-use Prim.Native.Nat.{_+_, _*_, _≤_}
+use Prim.Native.Nat.{ℕ, _+_, _*_, _%_, _≤_}
+use mathlib.Core.Path.{_≡_}
+use Rattle.romix.specs.Machine.{Fit, opening}
 use lib.ListN.{length}
 use native.Mathlib.Omega.{arith}
 use native.Mathlib.Nat.{le-div-iff-mul-le}
@@ -43,14 +45,19 @@ part-copy-end c = search needs
 copy-requires : tie.Need-copy-requires
 copy-requires c κs = search needs
 
--- src/mixes.rt:80:5
+fit : (n r k w long : ℕ) → 1 ≤ r → r ≤ 32 → 1 ≤ k → k ≤ n → n ≤ 1048576 → 4294967296 % n ≡ 0 → n ≤ w * k → (w + 4) * (128 * r) ≤ long → Fit (opening n r 1 k w) long
+fit n r k w long thin wide some least most word held room =
+    record { within = record { thin = thin; wide = omega arith; room = omega (arith, room) }; some = omega arith; small = omega arith; word = word; space = some; held = held; turned = omega arith }
+
 mix-lane-requires : tie.Need-mix-lane-requires
 mix-lane-requires c κs =
     let start = c .before .before .before .before .before .before .before .before .before .before in
     let v = start .args in
-    let w = c .before .before .before .before .before .before .before .stored .result in
-    let long : (w + 4) * (128 * v .r) ≤ length (v .s .now) = le-div-iff-mul-le {k = 128 * v .r} {x = w + 4} {y = length (v .s .now)} (omega arith) .0 (c .before .before .before .before .before .before .if1 .left) in
-    (record { within = record { thin = search needs; wide = search needs; room = omega (arith, long) }; some = search needs; small = omega arith; word = search needs; space = search needs; held = search needs; turned = omega arith }, search needs, search needs, search needs)
+    let pre = start .pre in
+    let w = c .before .before .before .before .before .before .before .stored in
+    let room = le-div-iff-mul-le {k = 128 * v .r} {x = w .result + 4} {y = length (v .s .now)} (omega arith) .0 (c .before .before .before .before .before .before .if1 .left) in
+    rw (c .before .before .before .copy .kept .0)
+    (fit _ _ _ _ _ (pre .0) (pre .1) (pre .4) (pre .5) (pre .6) (pre .7) (w .ensures .0) room, pre .6, pre .5, pre .3)
 
 -- src/mixes.rt:69:1
 same-length : tie.Need-same-length
