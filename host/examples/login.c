@@ -1,7 +1,7 @@
 /*
  * Makes a card for a password, then checks a login against it: prints yes.
  *
- *     cc -Ihost/include host/examples/login.c target/staticlib/librinnamoyle.a -o login && ./login
+ *     cc -Ihost/include host/examples/login.c "$(host/library)" -o login && ./login
  */
 #include <stdio.h>
 #include <stdlib.h>

@@ -1,10 +1,10 @@
 /*
  * Rinnamoyle: a scrypt (RFC 7914) login box. Five calls, proved.
  *
- * Link librinnamoyle.a, which `rt staticlib rinnamoyle` makes at the repository's root as
- * target/staticlib/librinnamoyle.a (x86-64 Linux):
+ * Link librinnamoyle.a, which host/library makes for the processor at hand (x86-64 or aarch64, Linux) and whose path it
+ * prints:
  *
- *     cc -Ihost/include program.c target/staticlib/librinnamoyle.a
+ *     cc -Ihost/include program.c "$(host/library)"
  *
  * host/examples/login.c is a whole program to copy from.
  *

@@ -7,7 +7,6 @@ use std::ffi::{c_int, c_long, c_void};
 use std::ops::{Deref, DerefMut};
 use std::{ptr, slice};
 
-const PAGE: usize = 4096;
 const MARK: u8 = 0xa5;
 
 const NOTHING: c_int = 0;
@@ -15,10 +14,19 @@ const READ: c_int = 1;
 const WRITE: c_int = 2;
 const PRIVATE_AND_OF_NO_FILE: c_int = 0x22;
 
+const PAGE_SIZE: c_int = 30;
+
 extern "C" {
     fn mmap(at: *mut c_void, length: usize, may: c_int, flags: c_int, file: c_int, offset: c_long) -> *mut c_void;
     fn mprotect(at: *mut c_void, length: usize, may: c_int) -> c_int;
     fn munmap(at: *mut c_void, length: usize) -> c_int;
+    fn sysconf(what: c_int) -> c_long;
+}
+
+/// 4 KiB on x86-64; on aarch64 the system's choice of 4, 16 or 64.
+fn page() -> usize {
+    // SAFETY: it only answers.
+    unsafe { sysconf(PAGE_SIZE) as usize }
 }
 
 /// Which guard page the buffer lies against.
@@ -40,7 +48,7 @@ pub struct Guarded {
 impl Guarded {
     /// A buffer of this length, all zero.
     pub fn zero(length: usize, against: Against) -> Guarded {
-        let between = length.div_ceil(PAGE).max(1) * PAGE;
+        let between = length.div_ceil(page()).max(1) * page();
         let first = fenced(between);
         let at = match against {
             Against::Front => 0,
@@ -87,9 +95,9 @@ impl Guarded {
 fn fenced(between: usize) -> *mut u8 {
     // SAFETY: a new mapping, and its own pages.
     unsafe {
-        let all = mmap(ptr::null_mut(), between + 2 * PAGE, NOTHING, PRIVATE_AND_OF_NO_FILE, -1, 0);
+        let all = mmap(ptr::null_mut(), between + 2 * page(), NOTHING, PRIVATE_AND_OF_NO_FILE, -1, 0);
         assert_ne!(all as isize, -1, "no memory for a buffer of {between} bytes");
-        let first = all.cast::<u8>().add(PAGE);
+        let first = all.cast::<u8>().add(page());
         assert_eq!(mprotect(first.cast(), between, READ | WRITE), 0, "mprotect");
         first
     }
@@ -114,6 +122,6 @@ impl DerefMut for Guarded {
 impl Drop for Guarded {
     fn drop(&mut self) {
         // SAFETY: the mapping that `fenced` made, and nothing borrows it any more.
-        unsafe { munmap(self.first.sub(PAGE).cast(), self.between + 2 * PAGE) };
+        unsafe { munmap(self.first.sub(page()).cast(), self.between + 2 * page()) };
     }
 }

@@ -5,8 +5,8 @@ mod contest;
 mod fast;
 
 use contest::{Contestant, Fastest, House, Ours, Straightforward};
+use std::env;
 use std::process::Command;
-use std::{env, fs};
 
 const SPACINGS: [u64; 4] = [1, 2, 4, 512];
 
@@ -49,17 +49,28 @@ fn contestants() -> (Vec<Contestant>, Vec<String>) {
     (all, missing)
 }
 
+/// What a command writes; nothing where it is not here.
+fn told(command: &str, words: &[&str]) -> String {
+    let told = Command::new(command).args(words).output();
+    told.map_or(String::new(), |told| String::from_utf8_lossy(&told.stdout).trim().to_string())
+}
+
+/// The processor's name, which /proc/cpuinfo has on x86-64 alone.
+fn model() -> String {
+    let info = told("lscpu", &[]);
+    let name = info.lines().find_map(|line| line.strip_prefix("Model name:"));
+    name.map_or("unknown processor".into(), |name| name.trim().to_string())
+}
+
 fn about(rounds: usize) -> String {
-    let rustc = Command::new("rustc").arg("--version").output();
-    let rustc = rustc.map_or("rustc".into(), |told| String::from_utf8_lossy(&told.stdout).trim().to_string());
-    let info = fs::read_to_string("/proc/cpuinfo").unwrap_or_default();
-    let model = info.lines().find(|line| line.starts_with("model name")).and_then(|line| line.split(": ").nth(1));
     format!(
-        "RFC 7914's third vector (N = 16,384, r = 8, p = 1, 64 bytes), every key checked. {}; {rustc}, opt-level 3, \
-         baseline x86-64, (b) with codegen-units = 1, (a) with cargo's own. Processor time of the one thread; {rounds} \
-         interleaved rounds ({ROUNDS_IF_SLOW} for what takes over a second); buffers written beforehand. Ratios are \
-         medians of a round's ratios.\n",
-        model.unwrap_or("unknown processor")
+        "RFC 7914's third vector (N = 16,384, r = 8, p = 1, 64 bytes), every key checked. {}, {}; {}, opt-level 3 for \
+         that processor's baseline, (b) with codegen-units = 1, (a) with cargo's own. Processor time of the one thread; \
+         {rounds} interleaved rounds ({ROUNDS_IF_SLOW} for what takes over a second); buffers written beforehand. Ratios \
+         are medians of a round's ratios.\n",
+        env::consts::ARCH,
+        model(),
+        told("rustc", &["--version"])
     )
 }
 

@@ -267,6 +267,7 @@ fn small_stack(random: &mut Random) -> Said {
         let written = rinnamoyle::write_card(read.salt, read.key, read.exponent, read.r, read.p, &mut room);
         (told.number, answer, written)
     };
+    // Where the system gives a thread no less (aarch64: 128 KiB), it is that.
     let thread = thread::Builder::new().stack_size(64 << 10).spawn(on_it).expect("a thread");
     assert_eq!(thread.join().unwrap(), (0, rinnamoyle::Answer::No, Ok(10 + 64 + 12)));
     Said::Tried("derivation, login and card within it".into())

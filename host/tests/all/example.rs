@@ -1,4 +1,4 @@
-//! The header and the C example, by a C compiler.
+//! The header, the C example and the vectors' lines, by a C compiler.
 
 use crate::{Said, Test};
 use apart::random::Random;
@@ -8,13 +8,14 @@ use std::{env, fs, process};
 
 pub const TESTS: &[Test] = &[
     ("the C example", example),
+    ("the vectors' lines, called from C", lines),
     ("the header's structs and those of the wrapper", same_structs),
     ("the header in C++", in_cpp),
 ];
 
 const STRICT: [&str; 5] = ["-Wall", "-Wextra", "-Wpedantic", "-Wconversion", "-Werror"];
 
-fn host(path: &str) -> PathBuf {
+pub fn host(path: &str) -> PathBuf {
     Path::new(env!("CARGO_MANIFEST_DIR")).join(path)
 }
 
@@ -39,12 +40,12 @@ impl Drop for Folder {
     }
 }
 
-fn words(told: &Output) -> String {
+pub fn words(told: &Output) -> String {
     String::from_utf8_lossy(&[&told.stdout[..], &told.stderr[..]].concat()).into_owned()
 }
 
-/// Compiles a program against header and library, and runs it.
-fn compiled_and_run(source: &Path, folder: &Folder) -> Output {
+/// Compiles a program against header and library, and runs it on files of the repository.
+fn compiled_and_run(source: &Path, folder: &Folder, files: &[&str]) -> Output {
     let program = folder.file("program");
     let told = Command::new("cc")
         .args(["-std=c99", "-O2"])
@@ -57,13 +58,20 @@ fn compiled_and_run(source: &Path, folder: &Folder) -> Output {
         .output()
         .expect("a C compiler, cc");
     assert!(told.status.success(), "{}", words(&told));
-    Command::new(program).output().expect("the program starts")
+    Command::new(program).args(files.iter().map(|file| host(file))).output().expect("the program starts")
 }
 
 fn example(_: &mut Random) -> Said {
-    let told = compiled_and_run(&host("examples/login.c"), &Folder::new());
+    let told = compiled_and_run(&host("examples/login.c"), &Folder::new(), &[]);
     assert_eq!((words(&told).as_str(), told.status.code()), ("yes\n", Some(0)));
     Said::Tried("compiled with every warning an error, and it says yes".into())
+}
+
+fn lines(_: &mut Random) -> Said {
+    let vectors = ["../crates/vectors/stdin", "../crates/vectors/stdout"];
+    let told = compiled_and_run(&host("tests/lines.c"), &Folder::new(), &vectors);
+    assert!(told.status.success(), "{}", words(&told));
+    Said::Tried(words(&told).trim_end().into())
 }
 
 /// C prints the place of each field: they must be those that the wrapper declares, one u64 after another.
@@ -89,7 +97,7 @@ fn same_structs(_: &mut Random) -> Said {
     let folder = Folder::new();
     let file = folder.file("structs.c");
     fs::write(&file, source).expect("a file");
-    let told = compiled_and_run(&file, &folder);
+    let told = compiled_and_run(&file, &folder, &[]);
     assert!(told.status.success(), "a field lies elsewhere");
     Said::Tried(format!("5 structs, {fields} fields"))
 }

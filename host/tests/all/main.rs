@@ -8,6 +8,7 @@ mod command;
 mod derivations;
 mod example;
 mod lend;
+mod library;
 mod logins;
 mod others;
 mod tally;
@@ -36,6 +37,7 @@ const TESTS: &[&[Test]] = &[
     logins::TESTS,
     wrapper::TESTS,
     others::TESTS,
+    library::TESTS,
     example::TESTS,
     command::TESTS,
 ];
