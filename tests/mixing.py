@@ -107,7 +107,7 @@ def unpacked(pieces):
 
 def quick_core(a0, b0, c0, d0, F=FOUR):
     a, b, c, d = a0, b0, c0, d0
-    for _ in range(4):
+    for _ in range(8):
         t = (a + d) & F
         b ^= (t << 7 | t >> 25) & F
         t = (b + a) & F
@@ -116,16 +116,7 @@ def quick_core(a0, b0, c0, d0, F=FOUR):
         d ^= (t << 13 | t >> 19) & F
         t = (d + c) & F
         a ^= (t << 18 | t >> 14) & F
-        # from columns to rows: the second and the fourth change places, each turned by its distance from the diagonal
-        b, c, d = (d << 192 | d >> 64) & F, (c << 128 | c >> 128) & F, (b << 64 | b >> 192) & F
-        t = (a + d) & F
-        b ^= (t << 7 | t >> 25) & F
-        t = (b + a) & F
-        c ^= (t << 9 | t >> 23) & F
-        t = (c + b) & F
-        d ^= (t << 13 | t >> 19) & F
-        t = (d + c) & F
-        a ^= (t << 18 | t >> 14) & F
+        # from columns to rows or back: the second and the fourth change places, each turned by its distance from the diagonal
         b, c, d = (d << 192 | d >> 64) & F, (c << 128 | c >> 128) & F, (b << 64 | b >> 192) & F
     return (a + a0) & F, (b + b0) & F, (c + c0) & F, (d + d0) & F
 

@@ -2,7 +2,7 @@
 //   a b   BYTES, in the first and in the second room; here, how many they are
 //   o s   the LENGTH of the output and of the scratch
 //   n r p k m   NUMBERs: N or an exponent, r, p, the spacing, the allowance
-use crate::fields;
+use lines::fields;
 
 pub struct Asked {
     pub a: u64,

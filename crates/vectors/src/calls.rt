@@ -4,10 +4,10 @@ ghost use lib.ListN.{length};
 use crate::asked;
 use crate::asked::Asked;
 use crate::desks;
-use crate::fields;
 use crate::hashes;
 use crate::mixes;
-use crate::say;
+use lines::fields;
+use lines::say;
 
 // Each call's name, and the letters of its fields (asked.rt).
 const CALLS: [u8; 135] = *b"\

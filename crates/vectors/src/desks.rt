@@ -1,9 +1,9 @@
 // Cards, texts and logins.
 use crate::asked::Asked;
-use crate::say;
 use card::Card;
 use card::Written;
 use cost::Exponent;
+use lines::say;
 use login::Desk;
 use login::Login;
 use text::Text;

@@ -1,7 +1,7 @@
 // SHA-256, HMAC and PBKDF2.
 ghost use Prim.Native.Nat.{_≤_};
 ghost use lib.ListN.{length};
-use crate::say;
+use lines::say;
 
 pub fn hash(m: &[u8]) -> bool
     requires { ⌜ length (now m) ≤ 1048576 ⌝ }

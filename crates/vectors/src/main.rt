@@ -6,12 +6,12 @@ ghost use lib.ListN.{length};
 mod asked;
 mod calls;
 mod desks;
-mod fields;
 mod hashes;
 mod mixes;
-mod say;
 
 use libc::STDIN_FILENO;
+use lines::fields;
+use lines::say;
 
 // Empty lines and headings are written as they are.
 fn is_case(line: &[u8]) -> bool {

@@ -4,9 +4,9 @@ ghost use Prim.Native.Nat.{_*_, _%_, _≤_};
 ghost use lib.ListN.{length};
 ghost use Rattle.romix.specs.Machine.{Fit, opening};
 use crate::asked::Asked;
-use crate::say;
 use cost::Cost;
 use cost::Power;
+use lines::say;
 use scrypt::Answer;
 
 pub fn core(x: &[u8]) -> bool {

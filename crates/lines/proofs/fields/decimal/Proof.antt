@@ -1,10 +1,10 @@
--- `vectors::fields::decimal` is safe and ends: a digit is taken only where the number with it still fits.
+-- `lines::fields::decimal` is safe and ends: a digit is taken only where the number with it still fits.
 -- Assumes nothing.
 use Prim.Native.Nat.{_-_}
 use borrow.Author.Needs.{needs}
 use lib.ListN.{length}
-use Rattle.vectors.proofs.fields.decimal.Statement.{statement}
-use Rattle.vectors.proofs.fields.decimal.Tie as tie
+use Rattle.lines.proofs.fields.decimal.Statement.{statement}
+use Rattle.lines.proofs.fields.decimal.Tie as tie
 
 abbrev Inv-loop : tie.InvT-loop
 Inv-loop w good₀ n₀ i₀ good n i = Unit {0}

@@ -1,10 +1,10 @@
--- `vectors::fields::place` answers two digits of w: a remainder is below what it was divided by.
+-- `lines::fields::place` answers two digits of w: a remainder is below what it was divided by.
 -- Assumes nothing.
 use borrow.Author.Needs.{needs}
 use native.Mathlib.Omega.{arith}
 use native.Mathlib.Nat.{mod-lt}
-use Rattle.vectors.proofs.fields.place.Statement.{statement}
-use Rattle.vectors.proofs.fields.place.Tie as tie
+use Rattle.lines.proofs.fields.place.Statement.{statement}
+use Rattle.lines.proofs.fields.place.Tie as tie
 
 mul-result : tie.Need-mul-result
 mul-result c = record { fits = omega (arith, mod-lt (c .args .i) (c .pre .0)) }

@@ -1,10 +1,10 @@
--- `vectors::say::hex` is safe and ends: nothing has to hold from turn to turn.
+-- `lines::say::hex` is safe and ends: nothing has to hold from turn to turn.
 -- Assumes nothing.
 use Prim.Native.Nat.{_-_}
 use borrow.Author.Needs.{needs}
 use lib.ListN.{length}
-use Rattle.vectors.proofs.say.hex.Statement.{statement}
-use Rattle.vectors.proofs.say.hex.Tie as tie
+use Rattle.lines.proofs.say.hex.Statement.{statement}
+use Rattle.lines.proofs.say.hex.Tie as tie
 
 abbrev Inv-loop : tie.InvT-loop
 Inv-loop s i₀ i = Unit {0}

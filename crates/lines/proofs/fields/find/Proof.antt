@@ -1,10 +1,10 @@
--- `vectors::fields::find` answers a place from at to the end: the loop starts at at and stops there.
+-- `lines::fields::find` answers a place from at to the end: the loop starts at at and stops there.
 -- Assumes nothing.
 use Prim.Native.Nat.{_≤_, _-_}
 use borrow.Author.Needs.{needs}
 use lib.ListN.{length}
-use Rattle.vectors.proofs.fields.find.Statement.{statement}
-use Rattle.vectors.proofs.fields.find.Tie as tie
+use Rattle.lines.proofs.fields.find.Statement.{statement}
+use Rattle.lines.proofs.fields.find.Tie as tie
 
 abbrev Inv-loop : tie.InvT-loop
 Inv-loop s at byte i₀ i = (at ≤ i) × (i ≤ length s)

@@ -1,12 +1,12 @@
--- `vectors::fields::spaces` is safe and ends: there are no more spaces than bytes passed.
+-- `lines::fields::spaces` is safe and ends: there are no more spaces than bytes passed.
 -- Assumes nothing.
 use mathlib.Core.Logic.{⊎-elim}
 use Prim.Native.Nat.{_≤_, _-_}
 use native.Mathlib.Omega.{arith}
 use borrow.Author.Needs.{needs}
 use lib.ListN.{length}
-use Rattle.vectors.proofs.fields.spaces.Statement.{statement}
-use Rattle.vectors.proofs.fields.spaces.Tie as tie
+use Rattle.lines.proofs.fields.spaces.Statement.{statement}
+use Rattle.lines.proofs.fields.spaces.Tie as tie
 
 abbrev Inv-loop : tie.InvT-loop
 Inv-loop line n₀ i₀ n i = n ≤ i

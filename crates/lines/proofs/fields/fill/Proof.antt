@@ -1,32 +1,32 @@
--- `vectors::say::numbers` is safe and ends: nothing has to hold from turn to turn.
+-- `lines::fields::fill` is safe, ends and keeps the room's length: the digits that it reads lie in w.
 -- Assumes nothing.
+use mathlib.Core.Path.{_≡_}
 use Prim.Native.Nat.{_-_}
 use borrow.Author.Needs.{needs}
 use lib.ListN.{length}
-use Rattle.vectors.proofs.say.numbers.Statement.{statement}
-use Rattle.vectors.proofs.say.numbers.Tie as tie
+use Rattle.lines.proofs.fields.fill.Statement.{statement}
+use Rattle.lines.proofs.fields.fill.Tie as tie
 
 abbrev Inv-loop : tie.InvT-loop
-Inv-loop labels x i₀ t4 t5 i = Unit {0}
+Inv-loop w unit room₀ n i₀ room i = length room ≡ length room₀
 
 abbrev μ-loop : tie.MeasureT-loop
-μ-loop labels x i₀ t4 t5 i = length x - i
+μ-loop w unit room₀ n i₀ room i = n - i
 
-pub numbers-spec : {M : Type 1} → statement M
-numbers-spec =
+pub fill-spec : {M : Type 1} → statement M
+fill-spec =
     tie.close
     (tie.spec
     Inv-loop
     μ-loop
     (λ c. search needs)
     (λ c κs. search needs)
-    (λ c κs. search needs)
     (λ c. search needs)
     (λ c. search needs)
     (λ c. search needs)
     (λ c κs. search needs)
     (λ c. search needs)
-    (λ c κs. search needs)
+    (λ c. search needs)
     (λ c. search needs)
     (λ c. search needs)
     (λ c. search needs)

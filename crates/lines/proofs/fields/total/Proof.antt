@@ -1,10 +1,10 @@
--- `vectors::fields::total` answers no more than the room has: what is at most most / unit, times unit, is at most most.
+-- `lines::fields::total` answers no more than the room has: what is at most most / unit, times unit, is at most most.
 -- Assumes nothing.
 use borrow.Author.Needs.{needs}
 use native.Mathlib.Omega.{arith}
 use native.Mathlib.Nat.{le-div-iff-mul-le}
-use Rattle.vectors.proofs.fields.total.Statement.{statement}
-use Rattle.vectors.proofs.fields.total.Tie as tie
+use Rattle.lines.proofs.fields.total.Statement.{statement}
+use Rattle.lines.proofs.fields.total.Tie as tie
 
 mul-result : tie.Need-mul-result
 mul-result c = record { fits = omega (arith, le-div-iff-mul-le (c .before .pre) .0 (c .if1 .left)) }

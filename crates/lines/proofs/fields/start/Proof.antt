@@ -1,10 +1,10 @@
--- `vectors::fields::start` answers a place in the line or its end: the loop stays within the line.
+-- `lines::fields::start` answers a place in the line or its end: the loop stays within the line.
 -- Assumes nothing.
 use Prim.Native.Nat.{_≤_, _-_}
 use borrow.Author.Needs.{needs}
 use lib.ListN.{length}
-use Rattle.vectors.proofs.fields.start.Statement.{statement}
-use Rattle.vectors.proofs.fields.start.Tie as tie
+use Rattle.lines.proofs.fields.start.Statement.{statement}
+use Rattle.lines.proofs.fields.start.Tie as tie
 
 abbrev Inv-loop : tie.InvT-loop
 Inv-loop line i left₀ at₀ left at = at ≤ length line
