@@ -29,6 +29,9 @@ static void stop(const char *words) {
 
 /* LENDING: the bytes end where a page begins that may be neither read nor written. */
 
+static struct bytes lent[4]; /* to the call of this line */
+static size_t lent_count;
+
 static uint64_t page(void) { return (uint64_t)sysconf(_SC_PAGESIZE); }
 
 static uint64_t whole_pages(uint64_t length) { return (length + page() - 1) / page() * page(); }
@@ -38,14 +41,18 @@ static struct bytes lend(uint64_t length) {
     uint8_t *at = mmap(NULL, pages + page(), PROT_READ | PROT_WRITE, MAP_PRIVATE | MAP_ANONYMOUS, -1, 0);
     if (at == MAP_FAILED || mprotect(at + pages, page(), PROT_NONE) != 0)
         stop("no memory to lend");
-    struct bytes lent = {at + pages - length, length};
-    memset(lent.at, LENT, length);
-    return lent;
+    struct bytes made = {at + pages - length, length};
+    memset(made.at, LENT, length);
+    lent[lent_count++] = made;
+    return made;
 }
 
-static void take_back(struct bytes lent) {
-    uint64_t pages = whole_pages(lent.length);
-    munmap(lent.at + lent.length - pages, pages + page());
+static void take_all_back(void) {
+    while (lent_count > 0) {
+        struct bytes last = lent[--lent_count];
+        uint64_t pages = whole_pages(last.length);
+        munmap(last.at + last.length - pages, pages + page());
+    }
 }
 
 /* READING A LINE'S FIELDS */
@@ -67,12 +74,12 @@ static struct bytes bytes(void) {
     uint64_t once = strspn(digits, "0123456789abcdef") / 2;
     const char *star = strchr(digits, '*');
     uint64_t times = star == NULL ? 1 : strtoull(star + 1, NULL, 10);
-    struct bytes lent = lend(once * times);
-    for (uint64_t i = 0; i < lent.length; i++) {
+    struct bytes made = lend(once * times);
+    for (uint64_t i = 0; i < made.length; i++) {
         const char pair[3] = {digits[2 * (i % once)], digits[2 * (i % once) + 1], 0};
-        lent.at[i] = (uint8_t)strtoul(pair, NULL, 16);
+        made.at[i] = (uint8_t)strtoul(pair, NULL, 16);
     }
-    return lent;
+    return made;
 }
 
 /* SAYING WHAT CAME OUT */
@@ -106,20 +113,20 @@ static void say_bytes(const char *label, const uint8_t *at, uint64_t length) {
     }
 }
 
-static int each_is(struct bytes lent, uint8_t byte) {
-    for (uint64_t i = 0; i < lent.length; i++)
-        if (lent.at[i] != byte)
+static int each_is(struct bytes buffer, uint8_t byte) {
+    for (uint64_t i = 0; i < buffer.length; i++)
+        if (buffer.at[i] != byte)
             return 0;
     return 1;
 }
 
-static void say_buffer(const char *label, struct bytes lent) {
-    if (!each_is(lent, 0) && !each_is(lent, LENT)) {
-        say_bytes(label, lent.at, lent.length);
+static void say_buffer(const char *label, struct bytes buffer) {
+    if (!each_is(buffer, 0) && !each_is(buffer, LENT)) {
+        say_bytes(label, buffer.at, buffer.length);
         return;
     }
     say(label);
-    say(each_is(lent, 0) ? "zero" : "kept");
+    say(each_is(buffer, 0) ? "zero" : "kept");
 }
 
 /* THE FIVE CALLS */
@@ -136,19 +143,17 @@ static void derive(void) {
     say_number(" mixings ", told.mixings);
     say_buffer(" key ", key);
     say_buffer(" scratch ", scratch);
-    take_back(pass), take_back(salt), take_back(key), take_back(scratch);
 }
 
 static void card(void) {
-    struct bytes lent = bytes();
-    struct rinnamoyle_card told = rinnamoyle_card_read(lent.at, lent.length);
+    struct bytes whole = bytes();
+    struct rinnamoyle_card told = rinnamoyle_card_read(whole.at, whole.length);
     say_number("card ", told.number);
     say_number(" exponent ", told.exponent);
     say_number(" r ", told.r);
     say_number(" p ", told.p);
-    say_bytes(" salt ", lent.at + told.salt_at, told.salt_len);
-    say_bytes(" key ", lent.at + told.key_at, told.key_len);
-    take_back(lent);
+    say_bytes(" salt ", whole.at + told.salt_at, told.salt_len);
+    say_bytes(" key ", whole.at + told.key_at, told.key_len);
 }
 
 static void write_card(void) {
@@ -160,23 +165,21 @@ static void write_card(void) {
     say_number("write ", told.number);
     say_number(" length ", told.length);
     say_buffer(" room ", room);
-    take_back(salt), take_back(key), take_back(room);
 }
 
 static void text(void) {
-    struct bytes lent = bytes();
-    struct rinnamoyle_text told = rinnamoyle_text_read(lent.at, lent.length);
+    struct bytes whole = bytes();
+    struct rinnamoyle_text told = rinnamoyle_text_read(whole.at, whole.length);
     say_number("text ", told.number);
-    say_bytes(" user ", lent.at, told.user_len);
-    say_bytes(" password ", lent.at + told.password_at, told.password_len);
-    take_back(lent);
+    say_bytes(" user ", whole.at, told.user_len);
+    say_bytes(" password ", whole.at + told.password_at, told.password_len);
 }
 
 static void login(void) {
     static const char *const desks[] = {"", "card ", "text ", "derivation "};
-    struct bytes lent = bytes(), against = bytes(), scratch = lend(number());
+    struct bytes given = bytes(), against = bytes(), scratch = lend(number());
     struct rinnamoyle_answer told =
-        rinnamoyle_login(lent.at, lent.length, against.at, against.length, scratch.at, scratch.length, number());
+        rinnamoyle_login(given.at, given.length, against.at, against.length, scratch.at, scratch.length, number());
     if (told.answer == RINNAMOYLE_REFUSED) {
         say("login refused ");
         say_number(desks[told.desk % 4], told.number);
@@ -184,7 +187,6 @@ static void login(void) {
         say(told.answer == RINNAMOYLE_YES ? "login yes" : "login no");
     }
     say_buffer(" scratch ", scratch);
-    take_back(lent), take_back(against), take_back(scratch);
 }
 
 static const struct {
@@ -200,6 +202,7 @@ static int run(char *line) {
     for (size_t i = 0; i < sizeof calls / sizeof *calls; i++)
         if (strcmp(name, calls[i].name) == 0) {
             calls[i].run();
+            take_all_back();
             return 1;
         }
     return 0;

@@ -32,13 +32,13 @@ fn run(call: usize, q: Asked, a: &[u8], b: &[u8], out: &mut [u8], scratch: &mut 
         1 => hashes::mac(a, b),
         2 => hashes::derive(a, b, out),
         3 => mixes::core(a),
-        4 => mixes::block(q, a, scratch),
-        5 => mixes::lane(q, a, scratch),
-        6 => mixes::derive(q, a, b, out, scratch),
+        4 => mixes::block(q.r, a, scratch),
+        5 => mixes::lane(q.n, q.r, q.k, a, scratch),
+        6 => mixes::derive(a, b, q.n, q.r, q.p, out, scratch, q.m),
         7 => desks::card(a),
-        8 => desks::write(q, a, b, out),
+        8 => desks::write(a, b, q.n, q.r, q.p, out),
         9 => desks::text(a),
-        _ => desks::login(q, a, b, scratch),
+        _ => desks::login(a, b, scratch, q.m),
     }
 }
 

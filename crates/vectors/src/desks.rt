@@ -1,5 +1,4 @@
 // Cards, texts and logins.
-use crate::asked::Asked;
 use card::Card;
 use card::Written;
 use cost::Exponent;
@@ -33,8 +32,8 @@ fn say_written(w: Written) {
     }
 }
 
-pub fn write(q: Asked, salt: &[u8], key: &[u8], room: &mut [u8]) -> bool {
-    say_written(card::write(salt, key, Exponent::new(q.n), q.r, q.p, room));
+pub fn write(salt: &[u8], key: &[u8], exponent: u64, r: u64, p: u64, room: &mut [u8]) -> bool {
+    say_written(card::write(salt, key, Exponent::new(exponent), r, p, room));
     say::buffer(b"room ", room);
     say::end()
 }
@@ -69,8 +68,8 @@ fn say_login(x: Login) {
     }
 }
 
-pub fn login(q: Asked, text: &[u8], card: &[u8], scratch: &mut [u8]) -> bool {
-    let x = login::check(text, card, scratch, q.m);
+pub fn login(text: &[u8], card: &[u8], scratch: &mut [u8], allowance: u64) -> bool {
+    let x = login::check(text, card, scratch, allowance);
     say::word(b"login ");
     say_login(x);
     say::buffer(b" scratch ", scratch);

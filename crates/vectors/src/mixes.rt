@@ -3,7 +3,6 @@ ghost use mathlib.Core.Path.{_≡_};
 ghost use Prim.Native.Nat.{_*_, _%_, _≤_};
 ghost use lib.ListN.{length};
 ghost use Rattle.romix.specs.Machine.{Fit, opening};
-use crate::asked::Asked;
 use cost::Cost;
 use cost::Power;
 use lines::say;
@@ -34,8 +33,8 @@ fn size(r: u64, block: &[u8], room: usize) -> usize
     r as usize
 }
 
-pub fn block(q: Asked, block: &[u8], s: &mut [u8]) -> bool {
-    let r = size(q.r, block, s.len());
+pub fn block(r: u64, block: &[u8], s: &mut [u8]) -> bool {
+    let r = size(r, block, s.len());
     if r == 0 {
         return false;
     }
@@ -91,18 +90,18 @@ fn space(n: usize, r: usize, k: usize, block: &[u8], s: &mut [u8]) -> bool
     store(n, r, k, block, s)
 }
 
-pub fn lane(q: Asked, block: &[u8], s: &mut [u8]) -> bool {
-    let r = size(q.r, block, s.len());
+pub fn lane(n: u64, r: u64, k: u64, block: &[u8], s: &mut [u8]) -> bool {
+    let r = size(r, block, s.len());
     if r == 0 {
         return false;
     }
-    if q.k == 0 {
+    if k == 0 {
         return false;
     }
-    if 1048576 < q.n {
+    if 1048576 < n {
         return false;
     }
-    space(q.n as usize, r, q.k as usize, block, s)
+    space(n as usize, r, k as usize, block, s)
 }
 
 fn say_derived(a: Answer) {
@@ -122,13 +121,22 @@ fn say_derived(a: Answer) {
     }
 }
 
-pub fn derive(q: Asked, pass: &[u8], salt: &[u8], key: &mut [u8], scratch: &mut [u8]) -> bool {
+pub fn derive(
+    pass: &[u8],
+    salt: &[u8],
+    n: u64,
+    r: u64,
+    p: u64,
+    key: &mut [u8],
+    scratch: &mut [u8],
+    allowance: u64,
+) -> bool {
     let c = Cost {
-        n: Power::new(q.n),
-        r: q.r,
-        p: q.p,
+        n: Power::new(n),
+        r,
+        p,
     };
-    say_derived(scrypt::derive(pass, salt, c, key, scratch, q.m));
+    say_derived(scrypt::derive(pass, salt, c, key, scratch, allowance));
     say::buffer(b"key ", key);
     say::buffer(b" scratch ", scratch);
     say::end()
