@@ -1,5 +1,7 @@
 // The card: a salt, a key, and a trailer at the end that points back to them. Any bytes at all may be
 // read, and get an answer.
+#![tactic(auto)]
+
 ghost use Rattle.std.specs.Prelude.{◌≡◌, [], ◌+◌, ◌≤◌, ◌<◌, length, get_or};
 ghost use Rattle.std.proofs.lemmas.List.Edits.{sets};
 ghost use Rattle.lent.specs.Bytes.{part};
@@ -27,7 +29,7 @@ const LEAST_KEY: usize = 16;
 const MOST_KEY: usize = 64;
 
 // Why a card is not read, or not written.
-#[derive(Drop)]
+#[derive(Clone, Copy)]
 pub enum Reason {
     Short,
     Unmarked,
@@ -39,7 +41,7 @@ pub enum Reason {
 
 // What a card says beside its bytes: the costs, and how long its parts are. The salt lies at the
 // front, the key behind it.
-#[derive(Drop)]
+#[derive(Clone, Copy)]
 pub struct Meaning {
     pub exponent: Exponent,
     pub r: u64,
@@ -48,20 +50,20 @@ pub struct Meaning {
     pub key: usize,
 }
 
-#[derive(Drop)]
+#[derive(Clone, Copy)]
 pub enum Card {
     Good(Meaning),
     Refused(Reason),
 }
 
 // The length of the card that was written.
-#[derive(Drop)]
+#[derive(Clone, Copy)]
 pub enum Written {
     Length(usize),
     Refused(Reason),
 }
 
-#[derive(Drop)]
+#[derive(Clone, Copy)]
 struct Split {
     salt: usize,
     key: usize,

@@ -1,4 +1,6 @@
 // What a derivation costs: the kinds of number, their limits, and how scratch becomes spacing.
+#![tactic(auto)]
+
 ghost use Rattle.std.specs.Prelude.{◌≡◌, ◌+◌, ◌^◌, ◌≤◌, ◌<◌};
 ghost use Rattle.cost.specs.Limits.{within, ok_power, ok_size};
 ghost use Rattle.cost.specs.Costs.{flaw_no, checked, power_of, checked_exponent};
@@ -16,15 +18,15 @@ pub const MOST_N: u64 = 1048576;
 
 // N is 2 to this power. A card holds the exponent and a derivation wants N; one can never pass for
 // the other.
-#[derive(Drop)]
+#[derive(Clone, Copy)]
 pub struct Exponent(u64);
 
 // N itself: any number, until it is checked.
-#[derive(Drop)]
+#[derive(Clone, Copy)]
 pub struct Power(u64);
 
 // What the one conversion finds.
-#[derive(Drop)]
+#[derive(Clone, Copy)]
 pub enum Converted {
     N(Power),
     OutOfRange,
@@ -108,7 +110,7 @@ fn size_fits(n: u64, r: u64) -> bool
 }
 
 // What is wrong with a cost.
-#[derive(Drop)]
+#[derive(Clone, Copy)]
 pub enum Flaw {
     BlockSize,
     Lanes,
@@ -117,14 +119,14 @@ pub enum Flaw {
 }
 
 // A cost that passed, or the first flaw.
-#[derive(Drop)]
+#[derive(Clone, Copy)]
 pub enum Checked {
     Good(Cost),
     Bad(Flaw),
 }
 
 // The cost settings. A value may be filled in by hand, so nobody who takes one trusts it.
-#[derive(Drop)]
+#[derive(Clone, Copy)]
 pub struct Cost {
     pub n: Power,
     pub r: u64,

@@ -1,6 +1,8 @@
 // Lent bytes: reading a part, writing into a place, and words in bytes. Every function says what the
 // whole lent slice is when it returns, as one definition of what it was, so that callers compose
 // them by rewriting and nothing else can have changed.
+#![tactic(auto)]
+
 ghost use Rattle.std.specs.Prelude.{◌≡◌, ◌+◌, ◌<◌, ◌≤◌, length};
 ghost use Rattle.std.proofs.lemmas.List.Edits.{sets};
 ghost use Rattle.lent.specs.Bytes.{part, Apart, zeros, xors, eqs};

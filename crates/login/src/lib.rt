@@ -1,5 +1,7 @@
 // The login check: a text, a card, one lent scratch and an allowance; yes, no, or which desk refused
 // and why.
+#![tactic(auto)]
+
 ghost use Rattle.std.specs.Prelude.{◌≡◌, length};
 ghost use Rattle.card.specs.Refusals.{read_of as card_of, salt_of, key_of};
 ghost use Rattle.card.specs.Paper.{paper as cardPaper};
@@ -12,14 +14,14 @@ use scrypt::Answer;
 use text::Text;
 
 // Which of the three desks refused, with that desk's own reason.
-#[derive(Drop)]
+#[derive(Clone, Copy)]
 pub enum Desk {
     OfCard(card::Reason),
     OfText(text::Reason),
     OfDerivation(scrypt::Reason),
 }
 
-#[derive(Drop)]
+#[derive(Clone, Copy)]
 pub enum Login {
     Yes,
     No,

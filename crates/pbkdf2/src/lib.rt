@@ -1,5 +1,7 @@
 // HMAC with SHA-256 (RFC 2104) and PBKDF2 with one iteration over it (RFC 8018), over lent bytes.
 // The key's block and the whole blocks of a salt are hashed once: every piece of the output starts from the two saved hash values.
+#![tactic(auto)]
+
 ghost use Rattle.std.specs.Prelude.{◌≡◌, ◌+◌, ◌-◌, ◌*◌, ◌%◌, ◌^◌, ◌≤◌, ◌<◌, length, take, drop};
 ghost use Rattle.std.proofs.lemmas.List.Edits.{sets};
 ghost use Rattle.sha256.specs.Sha256.{H₀, absorb};

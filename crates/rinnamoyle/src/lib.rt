@@ -1,5 +1,7 @@
 // What a caster links: five calls on numbers and byte slices. Any arguments get an answer; no call
 // keeps anything or needs a heap. host/include/rinnamoyle.h is the manual.
+#![tactic(auto)]
+
 ghost use Rattle.std.specs.Prelude.{◌≡◌, List, ℕ, ◌^◌, ◌<◌};
 ghost use Rattle.scrypt.specs.Derivation.{derivation};
 ghost use Rattle.scrypt.specs.Derivation as Derivation;
@@ -18,7 +20,7 @@ use scrypt::Answer;
 use text::Text;
 
 #[repr(C)]
-#[derive(Drop)]
+#[derive(Clone, Copy)]
 pub struct DeriveTold {
     pub number: u64,
     pub spacing: u64,
@@ -27,7 +29,7 @@ pub struct DeriveTold {
 }
 
 #[repr(C)]
-#[derive(Drop)]
+#[derive(Clone, Copy)]
 pub struct CardTold {
     pub number: u64,
     pub exponent: u64,
@@ -40,14 +42,14 @@ pub struct CardTold {
 }
 
 #[repr(C)]
-#[derive(Drop)]
+#[derive(Clone, Copy)]
 pub struct WriteTold {
     pub number: u64,
     pub length: u64,
 }
 
 #[repr(C)]
-#[derive(Drop)]
+#[derive(Clone, Copy)]
 pub struct TextTold {
     pub number: u64,
     pub user_len: u64,
@@ -56,7 +58,7 @@ pub struct TextTold {
 }
 
 #[repr(C)]
-#[derive(Drop)]
+#[derive(Clone, Copy)]
 pub struct LoginTold {
     pub answer: u64,
     pub desk: u64,

@@ -5,13 +5,15 @@
 //     lanes 0 .. p-1 | X | the block stepped forward | working block | stored V[0], V[k], V[2k] ..
 //
 // A single derivation runs it to the end; a derivation cut into turns runs it by allowances.
+#![tactic(auto)]
+
 ghost use Rattle.std.specs.Prelude.{◌≡◌, ◌+◌, ◌*◌, ◌/◌, ◌%◌, ◌^◌, ◌<◌, ◌≤◌, ◌≢◌, length};
 ghost use Rattle.std.proofs.lemmas.List.Edits.{sets};
 ghost use Rattle.lent.specs.Bytes.{part, zeros, xors, joined};
 ghost use Rattle.romix.specs.ROMix.{place, ro_mix, sum, mixings};
 ghost use Rattle.romix.specs.Machine.{opening, Room, Fit, block, blocks, get, put, at_x, clean, moved, more, mixed, kept, first, source, forward, settled, second, loaded, followed, finished, next, after};
 
-#[derive(Drop)]
+#[derive(Clone, Copy)]
 pub struct State {
     // N, r and p
     pub n: usize,

@@ -1,4 +1,6 @@
 // The derivation: RFC 7914's scrypt over one lent scratch, with its refusals.
+#![tactic(auto)]
+
 ghost use Rattle.std.specs.Prelude.{◌≡◌, ◌+◌, ◌*◌, ◌/◌, ◌^◌, ◌≤◌, ◌<◌, length};
 ghost use Rattle.std.proofs.lemmas.List.Edits.{sets};
 ghost use Rattle.lent.specs.Bytes.{part, zeros};
@@ -19,7 +21,7 @@ pub const LONGEST_SALT: usize = 1024;
 pub const LONGEST_KEY: usize = 256;
 
 // Why a derivation is refused.
-#[derive(Drop)]
+#[derive(Clone, Copy)]
 pub enum Reason {
     Passphrase,
     Salt,
@@ -30,7 +32,7 @@ pub enum Reason {
 }
 
 // What a derivation answers: the spacing, the stored blocks and the mixings made, or why not.
-#[derive(Drop)]
+#[derive(Clone, Copy)]
 pub enum Answer {
     Derived {
         spacing: u64,
@@ -41,7 +43,7 @@ pub enum Answer {
 }
 
 // What a derivation will do: at spacing k with n / k blocks stored, or nothing.
-#[derive(Drop)]
+#[derive(Clone, Copy)]
 pub enum Plan {
     Go { spacing: u64, stored: u64 },
     No(Reason),

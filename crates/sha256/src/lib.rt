@@ -1,5 +1,7 @@
 // SHA-256 (FIPS 180-4) over lent bytes. The hash value is eight words by value: there is no streaming state,
 // a caller keeps the value after the whole blocks that it has absorbed and closes the hash with the rest.
+#![tactic(auto)]
+
 ghost use Rattle.std.specs.Prelude.{◌≡◌, ◌++◌, ◌+◌, ◌-◌, ◌*◌, ◌/◌, ◌%◌, ◌^◌, ◌≤◌, ◌<◌, length, get_or, take, drop};
 ghost use Rattle.std.specs.Int.Bits.{bit_xor};
 ghost use Rattle.std.proofs.lemmas.List.Edits.{sets};

@@ -1,4 +1,6 @@
 // The login text, `user:password`: where it parts, and when it is refused.
+#![tactic(auto)]
+
 ghost use Rattle.std.specs.Prelude.{◌≡◌};
 ghost use Rattle.text.specs.Login.{colon_place, read_of, user_of, password_of};
 ghost use Rattle.text.specs.Paper.{reason_no, paper, lengths_of};
@@ -9,20 +11,20 @@ const COLON: u8 = b':';
 const MOST_USER: usize = 64;
 
 // Why a text is refused.
-#[derive(Drop)]
+#[derive(Clone, Copy)]
 pub enum Reason {
     NoColon,
     UserLength,
 }
 
 // The lengths of the two parts: the user name is the text's front, the password its end.
-#[derive(Drop)]
+#[derive(Clone, Copy)]
 pub struct Split {
     pub user: usize,
     pub password: usize,
 }
 
-#[derive(Drop)]
+#[derive(Clone, Copy)]
 pub enum Text {
     Good(Split),
     Refused(Reason),

@@ -4,7 +4,7 @@
 //   n r p k m   NUMBERs: N or an exponent, r, p, the spacing, the allowance
 use lines::fields;
 
-#[derive(Drop)]
+#[derive(Clone, Copy)]
 pub struct Asked {
     pub a: u64,
     pub b: u64,

@@ -1,5 +1,7 @@
 // Reads cases as lines from standard input, calls the proved library, and writes a line for each: the
 // answer, and what became of each lent buffer. Its proof is the same for ten cases or ten thousand.
+#![tactic(auto)]
+
 ghost use Rattle.std.specs.Prelude.{◌<◌, length};
 
 mod asked;

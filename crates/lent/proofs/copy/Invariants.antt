@@ -1,0 +1,10 @@
+-- `lent::copy` meets its contract: the loop stores src's bytes in order.
+use Rattle.std.proofs.Common.{◌-◌, get_or}
+use Rattle.lent.proofs.Tabs.{Filled}
+use Rattle.lent.proofs.copy.Given as goal
+
+abbrev pub invariant-loop-i : goal.invariant-loop-i
+invariant-loop-i l = Filled l.initial.s l.at l.n (λ j. get_or l.src j 0) l.s l.i
+
+abbrev pub decreases-loop-i : goal.decreases-loop-i
+decreases-loop-i l = l.n - l.i
