@@ -1,6 +1,6 @@
 -- Blocks of the scratch by their number: a block lies within it, two blocks lie apart, and what reading after writing gives.
 -- Here alone byte places are products; above, a block is a number. Assumes nothing.
-use Rattle.std.proofs.Common.{◌≡◌, ℕ, ◌+◌, ◌-◌, ◌*◌, ◌/◌, ◌^◌, ◌<◌, ◌≤◌, eqb, ◌≢◌, List, length, sym, ap, ◌∙◌, mul-le-mul_right, div-lt_iff_lt-mul, mul-le-mul_left, arith}
+use Rattle.std.proofs.Common.{◌≡◌, ℕ, ◌+◌, ◌*◌, ◌/◌, ◌^◌, ◌<◌, ◌≤◌, eqb, ◌≢◌, List, length, sym, ap, ◌∙◌, mul-le-mul_right, div-lt_iff_lt-mul, mul-le-mul_left, arith}
 use native.Mathlib.Decide.{dec_le}
 use Rattle.lent.specs.Bytes.{part, Apart}
 use Rattle.lent.proofs.Parts.{length-part, part-sets_same, part-sets_apart, sets_over, sets_apart}

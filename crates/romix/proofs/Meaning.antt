@@ -9,8 +9,8 @@ use Rattle.lent.proofs.Picks.{pick_any}
 use Rattle.mixing.specs.BlockMix.{block_mix}
 use Rattle.mixing.proofs.Laws.{length-block_mix}
 use Rattle.romix.specs.declared.State.{State}
-use Rattle.romix.specs.ROMix.{Vᵢ, place, turn, entering, ro_mix, sum, named, mixings}
-use Rattle.romix.specs.Machine.{Room, Fit, block, blocks, get, at_x, at_step, at_stored, more, first, kept, forward, second}
+use Rattle.romix.specs.ROMix.{Vᵢ, turn, entering, ro_mix, sum, named, mixings}
+use Rattle.romix.specs.Machine.{Room, Fit, blocks, get, at_x, at_step, at_stored, more, kept}
 use Rattle.romix.proofs.Sums.{sum_zero, sum_below}
 use Rattle.romix.proofs.Blocks.{get-put_same, get-put_other, length-get}
 
