@@ -1,39 +1,37 @@
 // What is written to standard output.
 use crate::fields;
-use libc::STDOUT_FILENO;
+use std::io;
 
-pub fn word(s: &[u8]) {
-    io::write_all(STDOUT_FILENO, s);
+pub fn word(rt: &impl Print, s: &[u8]) -> io::Result<()> {
+    rt.write_all(s)
 }
 
 // The end of an answer: the line that was asked was well formed.
-pub fn end() -> bool {
-    word(b"\n");
-    true
+pub fn end(rt: &impl Print) -> io::Result<bool> {
+    word(rt, b"\n")?;
+    Ok(true)
 }
 
 // A label, and a number behind it.
-pub fn number(label: &[u8], n: u64) {
-    word(label);
-    io::print_decimal(STDOUT_FILENO, n);
+pub fn number(rt: &impl Print, label: &[u8], n: u64) -> io::Result<()> {
+    word(rt, label)?;
+    print!(rt; "{n}")
 }
 
-fn hex(s: &[u8]) {
-    let mut i = 0;
-    while i < s.len() {
-        io::print_hex(STDOUT_FILENO, lent::wide(s[i]) as u64, 2);
-        i += 1;
+fn hex(rt: &impl Print, s: &[u8]) -> io::Result<()> {
+    for b in s {
+        print!(rt; "{b:02x}")?;
     }
+    Ok(())
 }
 
 // A label, and bytes behind it.
-pub fn bytes(label: &[u8], s: &[u8]) {
-    word(label);
+pub fn bytes(rt: &impl Print, label: &[u8], s: &[u8]) -> io::Result<()> {
+    word(rt, label)?;
     if s.len() == 0 {
-        word(b"-");
-        return;
+        return word(rt, b"-");
     }
-    hex(s);
+    hex(rt, s)
 }
 
 fn is_all(s: &[u8], byte: u8) -> bool {
@@ -48,32 +46,29 @@ fn is_all(s: &[u8], byte: u8) -> bool {
 }
 
 // A label, and what became of a buffer that was full of a5.
-pub fn buffer(label: &[u8], s: &[u8]) {
-    word(label);
+pub fn buffer(rt: &impl Print, label: &[u8], s: &[u8]) -> io::Result<()> {
+    word(rt, label)?;
     if is_all(s, 0) {
-        word(b"zero");
-        return;
+        return word(rt, b"zero");
     }
     if is_all(s, 0xa5) {
-        word(b"kept");
-        return;
+        return word(rt, b"kept");
     }
-    hex(s);
+    hex(rt, s)
 }
 
 // A whole answer of a label and bytes.
-pub fn answer(label: &[u8], s: &[u8]) -> bool {
-    bytes(label, s);
-    end()
+pub fn answer(rt: &impl Print, label: &[u8], s: &[u8]) -> io::Result<bool> {
+    bytes(rt, label, s)?;
+    end(rt)
 }
 
 // Labels and numbers by turns, a space behind each.
-pub fn numbers(labels: &[u8], x: &[u64]) {
-    let mut i = 0;
-    while i < x.len() {
-        word(fields::word(labels, i));
-        number(b" ", x[i]);
-        word(b" ");
-        i += 1;
+pub fn numbers(rt: &impl Print, labels: &[u8], x: &[u64]) -> io::Result<()> {
+    for (i, n) in x.iter().enumerate() {
+        word(rt, fields::word(labels, i))?;
+        number(rt, b" ", *n)?;
+        word(rt, b" ")?;
     }
+    Ok(())
 }
