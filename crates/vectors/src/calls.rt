@@ -4,6 +4,7 @@ ghost use Rattle.std.specs.Prelude.{◌<◌, ◌≤◌, length};
 use crate::asked::Asked;
 use crate::{asked, desks, hashes, mixes};
 use lines::{fields, say};
+use std::io;
 
 // Each call's name, and the letters of its fields (asked.rt).
 const CALLS: [u8; 135] = *b"\
@@ -20,21 +21,29 @@ const CALLS: [u8; 135] = *b"\
     login a b s m\n";
 
 // Runs a call by its place in CALLS, and says whether the line was well formed.
-fn run(call: usize, q: Asked, a: &[u8], b: &[u8], out: &mut [u8], scratch: &mut [u8]) -> bool
+fn run(
+    rt: &impl Print,
+    call: usize,
+    q: Asked,
+    a: &[u8],
+    b: &[u8],
+    out: &mut [u8],
+    scratch: &mut [u8],
+) -> io::Result<bool>
     requires { (length a.now ≤ 1048576) × (length b.now ≤ 4096) × (length out.old ≤ 4096) }
 {
     match call {
-        0 => hashes::hash(a),
-        1 => hashes::mac(a, b),
-        2 => hashes::derive(a, b, out),
-        3 => mixes::core(a),
-        4 => mixes::block(q.r, a, scratch),
-        5 => mixes::lane(q.n, q.r, q.k, a, scratch),
-        6 => mixes::derive(a, b, q.n, q.r, q.p, out, scratch, q.m),
-        7 => desks::card(a),
-        8 => desks::write(a, b, q.n, q.r, q.p, out),
-        9 => desks::text(a),
-        _ => desks::login(a, b, scratch, q.m),
+        0 => hashes::hash(rt, a),
+        1 => hashes::mac(rt, a, b),
+        2 => hashes::derive(rt, a, b, out),
+        3 => mixes::core(rt, a),
+        4 => mixes::block(rt, q.r, a, scratch),
+        5 => mixes::lane(rt, q.n, q.r, q.k, a, scratch),
+        6 => mixes::derive(rt, a, b, q.n, q.r, q.p, out, scratch, q.m),
+        7 => desks::card(rt, a),
+        8 => desks::write(rt, a, b, q.n, q.r, q.p, out),
+        9 => desks::text(rt, a),
+        _ => desks::login(rt, a, b, scratch, q.m),
     }
 }
 
@@ -52,33 +61,40 @@ fn front(s: &[u8], n: u64) -> &[u8]
     &s[0..end]
 }
 
-fn lend(call: usize, q: Asked, a: &[u8], b: &[u8]) -> bool
+fn lend(rt: &impl Print, call: usize, q: Asked, a: &[u8], b: &[u8]) -> io::Result<bool>
     requires { (length a.now ≤ 1048576) × (length b.now ≤ 4096) }
 {
     let mut out = [0xa5u8; 4096];
     let mut scratch = [0xa5u8; 65536];
     let o = least(q.o, 4096);
     let s = least(q.s, 65536);
-    run(call, q, a, b, &mut out[0..o], &mut scratch[0..s])
+    run(rt, call, q, a, b, &mut out[0..o], &mut scratch[0..s])
 }
 
-fn take(call: usize, line: &[u8], entry: &[u8], a: &mut [u8; 1048576], b: &mut [u8; 4096]) -> bool {
+fn take(
+    rt: &impl Print,
+    call: usize,
+    line: &[u8],
+    entry: &[u8],
+    a: &mut [u8; 1048576],
+    b: &mut [u8; 4096],
+) -> io::Result<bool> {
     let mut good = true;
     let q = asked::read(line, entry, a, b, &mut good);
     if !good {
-        return false;
+        return Ok(false);
     }
-    lend(call, q, front(&a[..], q.a), front(&b[..], q.b))
+    lend(rt, call, q, front(&a[..], q.a), front(&b[..], q.b))
 }
 
-fn answered_by(call: usize, line: &[u8], entry: &[u8]) -> bool {
+fn answered_by(rt: &impl Print, call: usize, line: &[u8], entry: &[u8]) -> io::Result<bool> {
     let mut a = [0u8; 1048576];
     let mut b = [0u8; 4096];
-    take(call, line, entry, &mut a, &mut b)
+    take(rt, call, line, entry, &mut a, &mut b)
 }
 
 // Answers a line that the table has, or says that it is malformed.
-fn answered(line: &[u8], table: &[u8]) -> bool
+fn answered(rt: &impl Print, line: &[u8], table: &[u8]) -> io::Result<bool>
     requires { length table.now < 1000 }
 {
     let mut call = 0;
@@ -86,16 +102,17 @@ fn answered(line: &[u8], table: &[u8]) -> bool
     while at < table.len() {
         let end = fields::find(table, at, b'\n');
         if fields::is_like(line, &table[at..end]) {
-            return answered_by(call, line, &table[at..end]);
+            return answered_by(rt, call, line, &table[at..end]);
         }
         call += 1;
         at = end + 1;
     }
-    false
+    Ok(false)
 }
 
-pub fn answer(line: &[u8]) {
-    if !answered(line, &CALLS) {
-        say::word(b"malformed\n");
+pub fn answer(rt: &impl Print, line: &[u8]) -> io::Result<()> {
+    if !answered(rt, line, &CALLS)? {
+        return say::word(rt, b"malformed\n");
     }
+    Ok(())
 }
