@@ -1,0 +1,11 @@
+-- `rinnamoyle::tell_login` meets its contract: the paper's numbers of each answer.
+use Rattle.rinnamoyle.proofs.tell_login.Goals as goal
+
+pub returns-in-Yes : goal.returns-in-Yes
+returns-in-Yes c = rw c.in-Yes.is
+
+pub returns-in-No : goal.returns-in-No
+returns-in-No c = rw c.in-No.is
+
+pub returns-in-Refused : goal.returns-in-Refused
+returns-in-Refused c = rw c.in-Refused.is c.tell_desk.ensures
