@@ -46,6 +46,7 @@ fn colon(text: &[u8]) -> usize
 }
 
 // The text's two lengths, or the first refusal that applies.
+#[tactic(auto, unfolding(crate::specs::Login::read_of, crate::specs::Login::parted))]
 pub fn read(text: &[u8]) -> Text
     ensures { paper result ≡ read_of text.now }
 {
