@@ -1,4 +1,4 @@
--- Lent bytes as lists: a part that is read, a place that is written (`lib.Seq`'s `sets l at vs`), and the few operations on whole byte strings.
+-- Lent bytes as lists: a part that is read, a place that is written (the library's `sets l at vs`), and the few operations on whole byte strings.
 -- A byte is a number below 256, and a lent slice is the list of its bytes.
 use Rattle.std.specs.Prelude.{ℕ, zero, suc, ◌+◌, ◌-◌, ◌<◌, ◌≤◌, Bool, true, false, ◌&&◌, List, [], ◌∷◌, ◌++◌, take, drop, replicate, ◌==◌, bit_xor, slice_index}
 
@@ -19,7 +19,7 @@ Apart n a b = n ≤ (a - b) + (b - a)
 abbrev pub zeros : ℕ → List ℕ
 zeros n = replicate n 0
 
--- every element is a byte; past the end `get_or` answers 0, so no bound on the index is wanted
+-- every element is a byte; past the end `slice_index` answers 0, so no bound on the index is wanted
 abbrev pub Bytes : List ℕ → Type 0
 Bytes l = (i : ℕ) → slice_index l i < 256
 

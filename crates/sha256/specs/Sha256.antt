@@ -1,5 +1,5 @@
 -- SHA-256 as FIPS 180-4 has it, in its order and letters. A message is a list of bytes, a word a number below 2^32.
--- `plus` is addition modulo 2^32 and `rotr n` ROTR^n of its section 3.2; `be` and `ofBe` are its big-endian words in bytes (section 3.1).
+-- `plus` is addition modulo 2^32 and `rotr n` ROTR^n of its section 3.2; `be` and `of_be` are its big-endian words in bytes (section 3.1).
 use Rattle.std.specs.Prelude.{List, [], ◌∷◌, ◌++◌, ℕ, zero, suc, ◌-◌, ◌*◌, ◌/◌, ◌%◌, ◌^◌, ltb, length, get_or}
 use Rattle.std.specs.Int.Bits.{bit_and, bit_xor}
 use Rattle.lent.specs.Bytes.{pick, part, zeros, tab}
