@@ -43,8 +43,9 @@ fn ready(folder: PathBuf) -> PathBuf {
 /// The last line that `host/library` writes is the archive's path.
 fn proved(processor: &str) -> PathBuf {
     let host = folder("CARGO_MANIFEST_DIR");
-    for source in ["../crates", "../crates.txt", "library", "common.sh", "aarch64"] {
-        println!("cargo:rerun-if-changed={}", host.join(source).display());
+    for source in ["../crates.txt", "library", "common.sh"].map(|name| host.join(name)).into_iter().chain(parts(&host))
+    {
+        println!("cargo:rerun-if-changed={}", source.display());
     }
     match Command::new(host.join("library")).arg(processor).output() {
         Err(trouble) => stop(&format!("host/library did not start: {trouble}")),
@@ -57,7 +58,14 @@ fn proved(processor: &str) -> PathBuf {
     }
 }
 
-/// Links a copy: the gate removes the root's target/, and a build must survive that.
+/// The folders that have a part in the proof. Not the crates' own: rt keeps its work there, and each build would make the next.
+fn parts(host: &Path) -> Vec<PathBuf> {
+    let crates = fs::read_dir(host.join("../crates")).unwrap_or_else(|trouble| stop(&format!("../crates: {trouble}")));
+    let folders = crates.flatten().flat_map(|each| ["src", "specs", "proofs"].map(|part| each.path().join(part)));
+    folders.filter(|folder| folder.is_dir()).collect()
+}
+
+/// Links a copy: `host/library` begins its folder anew, and a build must survive that.
 fn link(made: &Path, processor: &str) {
     let out = folder("OUT_DIR");
     let bytes = fs::read(made).unwrap_or_else(|trouble| stop(&format!("{} cannot be read: {trouble}", made.display())));
