@@ -3,7 +3,9 @@
 use Rattle.std.proofs.Common.{◌≡◌, ℕ, zero, suc, ◌+◌, ◌-◌, ◌<◌, ◌≤◌, List, [], ◌∷◌, ◌++◌, length, get_or, take, drop, set, replicate, sym, refl, ap, ◌∙◌, append_assoc, append-nil, add-zero, add-suc, suc-add, zero-add, arith, length-append, length-drop, length-set, take-append-drop, drop_of_length-le, length-take-le, get_or-drop, take_all, get_or-set_other, get_or-take, take-take, drop-drop, take_at, drop-set-lt, take-add, drop_at, set-set}
 use native.Mathlib.Decide.{dec_le}
 use lib.ListN.{length-replicate, replicate-append-replicate}
-use lib.Seq.{sets, sets-eq, length-sets, set_comm, take-set-le, drop-set-add, take-append_seam, drop-append-le, drop-append-add, take-append-le}
+use Rattle.std.proofs.lemmas.Slice.{put_mid-paste}
+use borrow.Rule.Slice.PartMut.{put_mid}
+use lib.Seq.{take-length, paste, sets, sets-eq, length-sets, set_comm, take-set-le, drop-set-add, take-append_seam, drop-append-le, drop-append-add, take-append-le}
 use Rattle.lent.specs.Bytes.{part, Apart}
 
 module _ {A : Type 0} where
@@ -144,6 +146,16 @@ module _ {A : Type 0} where
   -- what a callee that was lent the part from a to e has left, said of the whole
   pub sets_lent : (l vs : List A) (i : ℕ) → i + length vs ≤ length l → take i l ++ (vs ++ drop (i + length vs) l) ≡ sets l i vs
   sets_lent l vs i h = rw (sets-eq vs l i h, append_assoc)
+
+  -- what the library's copy of a list over a place has left, and what a callee has left that was lent that place
+  pub paste-sets : (l : List A) (i : ℕ) (vs : List A) (n : ℕ) → n ≤ length vs → i + n ≤ length l → paste l i vs n ≡ sets l i (take n vs)
+  paste-sets l i vs n h k =
+      let long : length (take n vs) ≡ n = length-take-le n vs h in
+      rw (sets-eq (take n vs) l i (omega arith), long) refl
+
+  pub put_mid-sets : (i n : ℕ) (l vs ws : List A) → vs ≡ ws → n ≡ length ws → i + length ws ≤ length l → put_mid i n l vs ≡ sets l i ws
+  put_mid-sets i n l vs ws e h k =
+      put_mid-paste i n l vs ws n e refl h ∙ paste-sets l i ws n (omega arith) (omega arith) ∙ ap (sets l i) (ap (λ (m : ℕ). take m ws) h ∙ take-length ws)
 
   sets-set : (l : List A) (i : ℕ) (a : List A) (j : ℕ) (x : A) → j < length a → sets l i (set a j x) ≡ set (sets l i a) (i + j) x
   sets-set l i [] j x h = absurd (omega arith)

@@ -1,10 +1,11 @@
 -- Laws of `tab`, of exclusive or and of comparison, each by its elements: what a loop over lent bytes has made after n turns.
 -- Assumes nothing.
-use Rattle.std.proofs.Common.{◌≡◌, ℕ, zero, suc, ◌+◌, ◌*◌, ◌<◌, ◌≤◌, Bool, true, false, ◌&&◌, eqb, List, [], ◌∷◌, ◌++◌, length, get_or, take, drop, set, sym, refl, ap, ◌∙◌, ap₂, suc-mul, zero-add, zero-mul, add-one, arith, length-append, length-set, get_or-drop, take-suc, ext_get_or, eq-eqb, ne_eqb, eqb-true}
+use Rattle.std.proofs.Common.{◌≡◌, ℕ, zero, suc, ◌+◌, ◌*◌, ◌<◌, ◌≤◌, Bool, true, false, ◌&&◌, eqb, List, [], ◌∷◌, ◌++◌, length, get_or, take, drop, set, sym, refl, ap, ◌∙◌, ap₂, suc-mul, mul-zero, mul-suc, zero-add, zero-mul, add-one, arith, length-append, length-set, get_or-drop, take-suc, eq-eqb, ne_eqb, eqb-true}
+use Rattle.std.proofs.lemmas.Bool.{eqb-false}
 use lib.Bits.{bit_xor, bit_or, or_add_and, xor_add_and, xor_self, and_le_l, and_le_r}
 use lib.Seq.{sets}
 use Rattle.lent.specs.Bytes.{part, zeros, tab, joined, xors, eqs}
-use Rattle.lent.proofs.Parts.{sets_snoc, length-part, get_or-part, part_add}
+use Rattle.lent.proofs.Parts.{sets-append, sets_snoc, length-part, get_or-part, part_add}
 
 -- ---- what a filling loop has made
 
@@ -79,6 +80,24 @@ filled_more {l₀} {l} {at} {n} {i} {f} v was h e =
 pub filled_all : {l₀ l : List ℕ} {at n i : ℕ} {f : ℕ → ℕ} → Filled l₀ at n f l i → n ≤ i → l ≡ sets l₀ at (tab n f)
 filled_all {l₀} {l} {at} {n} {i} {f} was h = let e : i ≡ n = omega (arith, was.most) in rw (← e) was.is
 
+-- The same for a loop that writes f 0, f 1, .. one behind the other from place `at` on, each of b elements.
+pub record Laid (l₀ : List ℕ) (at b : ℕ) (f : ℕ → List ℕ) (l : List ℕ) (i : ℕ) : Type 0 where
+  pub is : l ≡ sets l₀ at (joined i f)
+  pub long : length (joined i f) ≡ b * i
+
+pub laid_none : (l₀ : List ℕ) (at b : ℕ) (f : ℕ → List ℕ) → Laid l₀ at b f l₀ 0
+unfolding joined
+laid_none l₀ at b f = record { is = refl; long = sym (mul-zero b) }
+
+pub laid_more : {l₀ l l' : List ℕ} {at b i : ℕ} {f : ℕ → List ℕ} (v : List ℕ) → Laid l₀ at b f l i → v ≡ f i → length v ≡ b → l' ≡ sets l (at + b * i) v → Laid l₀ at b f l' (i + 1)
+unfolding joined
+laid_more {l₀} {l} {l'} {at} {b} {i} {f} v was e n put =
+    let long : length (f i) ≡ b = ap length (sym e) ∙ n in
+    record {
+      is = put ∙ rw (was.is, e, add-one, ← was.long) (sym (sets-append l₀ at (joined i f) (f i)));
+      long = rw (add-one, length-append, was.long, long) (sym (mul-suc b i));
+    }
+
 -- ---- zero bytes, exclusive or, comparison
 
 pub tab-zeros : (n : ℕ) → tab n (λ i. 0) ≡ zeros n
@@ -128,9 +147,6 @@ eqs_true (x ∷ xs) (y ∷ ys) h = both (eqb x y) refl h (eqs_true xs ys)
 
 -- ---- a comparison that gathers the differences of all pairs
 
-abbrev pub Alike : List ℕ → List ℕ → ℕ → Type 0
-Alike xs ys n = (k : ℕ) → k < n → get_or xs k 0 ≡ get_or ys k 0
-
 -- what is gathered is zero just where nothing was gathered before and the pair is alike
 pub or_xor_zero : (d x y : ℕ) → bit_or d (bit_xor x y) ≡ 0 → (d ≡ 0) × (x ≡ y)
 or_xor_zero d x y h =
@@ -145,16 +161,22 @@ or_xor_zero d x y h =
 pub or_xor_none : (d x y : ℕ) → d ≡ 0 → x ≡ y → bit_or d (bit_xor x y) ≡ 0
 or_xor_none d x y z e = ap₂ (λ (a b : ℕ). bit_or a (bit_xor b y)) z e ∙ ap (bit_or 0) (xor_self y)
 
--- so two strings of one length are the same just where nothing is gathered over all pairs
-pub eqs_gathered : (xs ys : List ℕ) (d : ℕ) → length xs ≡ length ys → (d ≡ 0 → Alike xs ys (length xs)) → (Alike xs ys (length xs) → d ≡ 0) → eqb d 0 ≡ eqs xs ys
-eqs_gathered xs ys d n to from = go (eqs xs ys) refl
+-- so one pair more is one test more
+pub gathered_more : (d x y : ℕ) (rest : Bool) → eqb (bit_or d (bit_xor x y)) 0 && rest ≡ eqb d 0 && (eqb x y && rest)
+gathered_more d x y rest = go (eqb d 0) (eqb x y) refl refl
   where
-    go : (b : Bool) → eqs xs ys ≡ b → eqb d 0 ≡ b
-    go true e = eq-eqb d 0 (from (λ k h. ap (λ (l : List ℕ). get_or l k 0) (eqs_true xs ys e)))
-    go false e = ne_eqb d 0 (λ z. differ (ext_get_or 0 xs ys n (to z)))
-      where
-        differ : xs ≡ ys → ⊥
-        differ p = let z : ◌≡◌ {A = Bool} true false = sym (eqs_refl xs) ∙ ap (eqs xs) p ∙ e in let o : ◌≡◌ {A = ℕ} 0 1 = cc in omega arith
+    go : (b c : Bool) → eqb d 0 ≡ b → eqb x y ≡ c → eqb (bit_or d (bit_xor x y)) 0 && rest ≡ b && (c && rest)
+    go true true e k = rw (eq-eqb (bit_or d (bit_xor x y)) 0 (or_xor_none d x y (eqb-true d 0 e) (eqb-true x y k))) refl
+    go true false e k = rw (ne_eqb (bit_or d (bit_xor x y)) 0 (λ z. eqb-false x y k (or_xor_zero d x y z).1)) refl
+    go false c e k = rw (ne_eqb (bit_or d (bit_xor x y)) 0 (λ z. eqb-false d 0 e (or_xor_zero d x y z).0)) refl
+
+-- and at the end what is gathered decides
+pub gathered_all : (b : Bool) (xs ys : List ℕ) → length xs ≡ 0 → length ys ≡ 0 → b && eqs xs ys ≡ b
+unfolding eqs
+gathered_all true [] [] h k = refl
+gathered_all false [] [] h k = refl
+gathered_all b [] (y ∷ ys) h k = absurd (omega arith)
+gathered_all b (x ∷ xs) ys h k = absurd (omega arith)
 
 pub eqs_lengths : (xs ys : List ℕ) → (length xs ≡ length ys → ⊥) → eqs xs ys ≡ false
 unfolding eqs

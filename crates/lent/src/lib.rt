@@ -3,22 +3,17 @@
 // them by rewriting and nothing else can have changed.
 #![tactic(auto)]
 
-ghost use Rattle.std.specs.Prelude.{◌≡◌, ◌+◌, ◌<◌, ◌≤◌, length};
+ghost use Rattle.std.specs.Prelude.{◌≡◌, ◌+◌, ◌-◌, ◌*◌, ◌++◌, ◌^◌, ◌<◌, ◌≤◌, ℕ, List, length, get_or};
 ghost use Rattle.std.proofs.lemmas.List.Edits.{sets};
-ghost use Rattle.lent.specs.Bytes.{part, Apart, zeros, xors, eqs};
-ghost use Rattle.lent.specs.Word.{plus, rotl, rotr, le, be, of_le, of_be};
+ghost use Rattle.lent.specs.Bytes.{part, Apart, zeros, tab, joined, xors, eqs};
+ghost use Rattle.lent.specs.Word.{plus, le, be, of_le, of_be};
 
 // Writes src into s from place at on.
 pub fn copy(s: &mut [u8], at: usize, src: &[u8])
     requires { at + length src.now ≤ length s.old }
     ensures { s.new ≡ sets s.old at src.now }
 {
-    let n = src.len();
-    let mut i = 0;
-    while i < n {
-        s[at + i] = src[i];
-        i += 1;
-    }
+    s[at..at + src.len()].copy_from_slice(src);
 }
 
 // Writes the n bytes at place from over those at place to, which lie apart.
@@ -26,11 +21,7 @@ pub fn copy_within(s: &mut [u8], from: usize, to: usize, n: usize)
     requires { (from + n ≤ length s.old) × (to + n ≤ length s.old) × Apart n from to }
     ensures { s.new ≡ sets s.old to (part from n s.old) }
 {
-    let mut i = 0;
-    while i < n {
-        s[to + i] = s[from + i];
-        i += 1;
-    }
+    s.copy_within(from..from + n, to);
 }
 
 // The n bytes at place to become the exclusive or of those at places a and b, which lie apart from it.
@@ -38,10 +29,8 @@ pub fn xor_to(s: &mut [u8], a: usize, b: usize, to: usize, n: usize)
     requires { (a + n ≤ length s.old) × (b + n ≤ length s.old) × (to + n ≤ length s.old) × Apart n a to × Apart n b to }
     ensures { s.new ≡ sets s.old to (xors (part a n s.old) (part b n s.old)) }
 {
-    let mut i = 0;
-    while i < n {
+    for i in 0..n {
         s[to + i] = s[a + i] ^ s[b + i];
-        i += 1;
     }
 }
 
@@ -50,101 +39,132 @@ pub fn wipe(s: &mut [u8], at: usize, n: usize)
     requires { at + n ≤ length s.old }
     ensures { s.new ≡ sets s.old at (zeros n) }
 {
-    let mut i = 0;
-    while i < n {
-        s[at + i] = 0;
-        i += 1;
-    }
+    s[at..at + n].fill(0);
 }
 
 // Wipes all of it.
 pub fn wipe_all(s: &mut [u8])
     ensures { s.new ≡ zeros (length s.old) }
 {
-    wipe(s, 0, s.len());
+    s.fill(0);
 }
 
 // Whether a and b hold the same bytes. Every pair is looked at, wherever the first difference lies.
 pub fn same(a: &[u8], b: &[u8]) -> bool
     ensures { result ≡ eqs a.now b.now }
 {
-    let n = a.len();
-    if n != b.len() {
+    if a.len() != b.len() {
         return false;
     }
-    let mut d: u8 = 0;
-    let mut i = 0;
-    while i < n {
-        d = d | (a[i] ^ b[i]);
-        i += 1;
+    let mut d = 0u8;
+    for (x, y) in a.iter().zip(b) {
+        d |= x ^ y;
     }
     d == 0
 }
 
-// x + y, modulo 2^32.
-pub fn add(x: u32, y: u32) -> u32
-    ensures { result ≡ plus x y }
+// s at the front of N bytes, zeros behind it.
+pub fn padded<const N: usize>(s: &[u8]) -> [u8; N]
+    requires { length s.now ≤ N }
+    ensures { result ≡ s.now ++ zeros (N - length s.now) }
 {
-    std::num::wrapping_add_u32(x, y)
+    let mut b = [0u8; N];
+    copy(&mut b, 0, s);
+    b
 }
 
-// x rotated left by n bits.
-pub fn rol(x: u32, n: u32) -> u32
-    requires { (0 < n) × (n < 32) }
-    ensures { result ≡ rotl n x }
-{
-    (x << n) | (x >> (32 - n))
+// An order of the bytes in a word: the number that bytes say, and the bytes of a number.
+pub trait Order {
+    ghost said: { List ℕ → ℕ };
+
+    ghost written: { ℕ → ℕ → List ℕ };
+
+    fn word(b: [u8; 4]) -> u32
+        ensures { result ≡ said b };
+
+    fn four(x: u32) -> [u8; 4]
+        ensures { result ≡ written 4 x };
 }
 
-// x rotated right by n bits.
-pub fn ror(x: u32, n: u32) -> u32
-    requires { (0 < n) × (n < 32) }
-    ensures { result ≡ rotr n x }
-{
-    (x >> n) | (x << (32 - n))
+// The lowest byte first.
+pub struct LittleEndian;
+
+// The highest byte first.
+pub struct BigEndian;
+
+impl Order for LittleEndian {
+    ghost said = { of_le };
+
+    ghost written = { le };
+
+    fn word(b: [u8; 4]) -> u32 {
+        u32::from_le_bytes(b)
+    }
+
+    fn four(x: u32) -> [u8; 4] {
+        x.to_le_bytes()
+    }
 }
 
-// A byte as a word. That it stays below 256 saves every caller the proof.
-pub fn wide(x: u8) -> u32
-    ensures { (result ≡ x) × (result < 256) }
-{
-    x as u32
+impl Order for BigEndian {
+    ghost said = { of_be };
+
+    ghost written = { be };
+
+    fn word(b: [u8; 4]) -> u32 {
+        u32::from_be_bytes(b)
+    }
+
+    fn four(x: u32) -> [u8; 4] {
+        x.to_be_bytes()
+    }
 }
 
-// The word that the four bytes at place at say, the lowest first.
-pub fn get_le32(s: &[u8], at: usize) -> u32
+// The word that the four bytes at place at say.
+pub fn get<O: Order>(s: &[u8], at: usize) -> u32
     requires { at + 4 ≤ length s.now }
-    ensures { result ≡ of_le (part at 4 s.now) }
+    ensures { result ≡ O.said (part at 4 s.now) }
 {
-    wide(s[at]) + 256 * (wide(s[at + 1]) + 256 * (wide(s[at + 2]) + 256 * wide(s[at + 3])))
+    O::word([s[at], s[at + 1], s[at + 2], s[at + 3]])
 }
 
-// The word that the four bytes at place at say, the highest first.
-pub fn get_be32(s: &[u8], at: usize) -> u32
-    requires { at + 4 ≤ length s.now }
-    ensures { result ≡ of_be (part at 4 s.now) }
-{
-    256 * (256 * (256 * wide(s[at]) + wide(s[at + 1])) + wide(s[at + 2])) + wide(s[at + 3])
-}
-
-// Writes x as four bytes at place at, the lowest first.
-pub fn put_le32(s: &mut [u8], at: usize, x: u32)
+// Writes x as four bytes at place at.
+pub fn put<O: Order>(s: &mut [u8], at: usize, x: u32)
     requires { at + 4 ≤ length s.old }
-    ensures { s.new ≡ sets s.old at (le 4 x) }
+    ensures { s.new ≡ sets s.old at (O.written 4 x) }
 {
-    s[at] = (x % 256) as u8;
-    s[at + 1] = (x / 256 % 256) as u8;
-    s[at + 2] = (x / 256 / 256 % 256) as u8;
-    s[at + 3] = (x / 256 / 256 / 256 % 256) as u8;
+    copy(s, at, &O::four(x));
 }
 
-// Writes x as four bytes at place at, the highest first.
-pub fn put_be32(s: &mut [u8], at: usize, x: u32)
-    requires { at + 4 ≤ length s.old }
-    ensures { s.new ≡ sets s.old at (be 4 x) }
+// The N words from place at on.
+pub fn load<O: Order, const N: usize>(s: &[u8], at: usize) -> [u32; N]
+    requires { at + 4 * N ≤ length s.now }
+    ensures { result ≡ tab N (λ i. O.said (part (at + 4 * i) 4 s.now)) }
 {
-    s[at] = (x / 256 / 256 / 256 % 256) as u8;
-    s[at + 1] = (x / 256 / 256 % 256) as u8;
-    s[at + 2] = (x / 256 % 256) as u8;
-    s[at + 3] = (x % 256) as u8;
+    let mut x = [0u32; N];
+    for i in 0..N {
+        x[i] = get::<O>(s, at + 4 * i);
+    }
+    x
+}
+
+// Writes N words from place at on.
+pub fn store<O: Order, const N: usize>(s: &mut [u8], at: usize, x: &[u32; N])
+    requires { at + 4 * N ≤ length s.old }
+    ensures { s.new ≡ sets s.old at (joined N (λ i. O.written 4 (get_or x.now i 0))) }
+{
+    for i in 0..N {
+        copy(s, at + 4 * i, &O::four(x[i]));
+    }
+}
+
+// The sums of two arrays' words, modulo 2^32.
+pub fn sums<const N: usize>(x: &[u32; N], y: &[u32; N]) -> [u32; N]
+    ensures { result ≡ tab N (λ i. plus (get_or x.now i 0) (get_or y.now i 0)) }
+{
+    let mut z = [0u32; N];
+    for i in 0..N {
+        z[i] = x[i].wrapping_add(y[i]);
+    }
+    z
 }

@@ -1,28 +1,33 @@
--- `lent::same` meets its contract: what the loop gathers is zero just where all pairs passed are alike.
-use Rattle.std.proofs.Common.{◌≡◌, length, get_or, sym, refl, arith, below_more}
-use Rattle.lent.proofs.Tabs.{or_xor_zero, or_xor_none, eqs_gathered, eqs_lengths}
+-- `lent::same` meets its contract.
+use Rattle.std.proofs.Common.{rules, ◌≡◌, ◌∷◌, eqb, length, ◌∙◌, ap, ap₂, sym, arith, inl, inr}
+use Rattle.lent.specs.Bytes.{eqs}
+use Rattle.lent.proofs.Tabs.{gathered_more, gathered_all, eqs_lengths}
 use Rattle.lent.proofs.same.Goals as goal
 
-pub returns-then-n-b : goal.returns-then-n-b
-returns-then-n-b c = sym (eqs_lengths _ _ c.if-n-b.true)
+pub returns-then-a-b : goal.returns-then-a-b
+returns-then-a-b c = sym (eqs_lengths _ _ c.if-a-b.true)
 
-pub loop-i-init : goal.loop-i-init
-loop-i-init c = (omega arith, (λ _ k h. absurd (omega arith)), (λ _. refl))
+pub loop-x-init : goal.loop-x-init
+loop-x-init c =
+    let fa : c.into_iter-x-iterator.result.a.rest.now ≡ c.args.a.now = search rules in
+    let fb : c.into_iter-x-iterator.result.b.rest.now ≡ c.args.b.now = search rules in
+    (ap length fa ∙ c.if-a-b.false ∙ sym (ap length fb), ap₂ eqs fa fb)
 
-pub loop-i-preserved : goal.loop-i-preserved
-loop-i-preserved c =
-    let i = c.loop-i.i in
-    let d = c.loop-i.d in
-    let a = c.args in
-    let x = get_or a.a.now i 0 in
-    let y = get_or a.b.now i 0 in (
-      omega arith,
-      (λ z. let both = or_xor_zero d x y z in below_more (λ k. get_or a.a.now k 0 ≡ get_or a.b.now k 0) i (c.loop-i.invariant.1 both.0) both.1),
-      (λ all. or_xor_none d x y (c.loop-i.invariant.2 (λ k h. all k (omega arith))) (all i (omega arith))),
-    )
+pub loop-x-preserved : goal.loop-x-preserved
+unfolding eqs
+loop-x-preserved c =
+    let s = c.in-Some.ensures.steps in
+    let x = c.in-Some.x.now in
+    let y = c.in-Some.y.now in
+    let ra = c.next.new.self.a.rest.now in
+    let rb = c.next.new.self.b.rest.now in
+    let ea : c.loop-x.x-iterator.a.rest.now ≡ x ∷ ra = s.0 in
+    let eb : c.loop-x.x-iterator.b.rest.now ≡ y ∷ rb = s.1 in
+    let n : length (x ∷ ra) ≡ length (y ∷ rb) = rw (ea, eb) at c.loop-x.invariant.0 in
+    (omega arith, gathered_more c.loop-x.d x y (eqs ra rb) ∙ (rw (ea, eb) at c.loop-x.invariant.1))
 
 pub returns : goal.returns
 returns c =
-    let a = c.args in
-    let past : c.loop-i.i ≡ length a.a.now = omega arith in
-    eqs_gathered a.a.now a.b.now c.loop-i.d c.if-n-b.false (rw past at c.loop-i.invariant.1) (rw past at c.loop-i.invariant.2)
+    let even = c.loop-x.invariant.0 in
+    let none : length c.loop-x.x-iterator.a.rest.now ≡ 0 = elim c.in-None.ensures.steps [ inl e ↦ e.1.0 | inr e ↦ even ∙ e.1.0 ] in
+    sym (gathered_all (eqb c.loop-x.d 0) _ _ none (sym even ∙ none)) ∙ c.loop-x.invariant.1

@@ -1,10 +1,9 @@
--- `lent::same` meets its contract: what the loop gathers is zero just where all pairs passed are alike.
-use Rattle.std.proofs.Common.{◌≡◌, ◌-◌, ◌≤◌}
-use Rattle.lent.proofs.Tabs.{Alike}
+-- `lent::same` meets its contract: what is gathered, and whether the pairs still to come are alike, together say whether all are.
+use Rattle.std.proofs.Common.{◌≡◌, ◌&&◌, eqb, length}
+use Rattle.lent.specs.Bytes.{eqs}
 use Rattle.lent.proofs.same.Given as goal
 
-abbrev pub invariant-loop-i : goal.invariant-loop-i
-invariant-loop-i l = (l.i ≤ l.n) × (l.d ≡ 0 → Alike l.a l.b l.i) × (Alike l.a l.b l.i → l.d ≡ 0)
-
-abbrev pub decreases-loop-i : goal.decreases-loop-i
-decreases-loop-i l = l.n - l.i
+abbrev pub invariant-loop-x : goal.invariant-loop-x
+invariant-loop-x l =
+    (length l.x-iterator.a.rest.now ≡ length l.x-iterator.b.rest.now)
+    × (eqb l.d 0 && eqs l.x-iterator.a.rest.now l.x-iterator.b.rest.now ≡ eqs l.a l.b)

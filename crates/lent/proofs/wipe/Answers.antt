@@ -1,13 +1,14 @@
--- `lent::wipe` meets its contract: the loop stores zeros.
-use Rattle.std.proofs.Common.{refl, ◌∙◌}
-use Rattle.lent.proofs.Tabs.{filled_none, filled_more, filled_all, tab-zeros}
+-- `lent::wipe` meets its contract: the place is the part that is lent to the library's `fill`.
+use Rattle.std.proofs.Common.{rules, ◌≡◌, ◌+◌, ◌-◌, ◌≤◌, length, arith}
+use lib.ListN.{length-replicate}
+use Rattle.lent.specs.Bytes.{zeros}
+use Rattle.lent.proofs.Parts.{put_mid-sets}
 use Rattle.lent.proofs.wipe.Goals as goal
 
-pub loop-i-init : goal.loop-i-init
-loop-i-init c = filled_none _ _ _ _
-
-pub loop-i-preserved : goal.loop-i-preserved
-loop-i-preserved c = filled_more _ c.loop-i.invariant c.loop-i-test.true refl
-
 pub returns : goal.returns
-returns c = filled_all c.loop-i.invariant c.loop-i-test.false ∙ rw tab-zeros
+returns c =
+    let a = c.args in
+    let long : length (zeros a.n) ≡ a.n = length-replicate a.n 0 in
+    let n : a.at + a.n - a.at ≡ length (zeros a.n) = omega arith in
+    let room : a.at + length (zeros a.n) ≤ length a.s.now = omega arith in
+    put_mid-sets a.at _ a.s.now _ (zeros a.n) (search rules) n room
