@@ -1,33 +1,21 @@
--- Powers of two: one shifted by e is 2 ^ e, and the test for powers means what it says. Assumes nothing.
+-- Powers of two: the test for powers means what it says, and the library's test is the same. Assumes nothing.
 use mathlib.Core.Path.{◌≡◌, refl, sym, ap, ◌∙◌}
-use mathlib.Core.Bool.{Bool, true, false, ◌&&◌, ◌||◌}
-use Prim.Native.Nat.{ℕ, zero, suc, ◌-◌, ◌*◌, ◌%◌, ◌^◌, ◌≤◌, ◌<◌}
-use native.Mathlib.Nat.{one-mul, mod-eq_of_lt}
+use mathlib.Core.Bool.{Bool, true, false, ◌||◌}
+use Prim.Native.Nat.{ℕ, zero, suc, ◌*◌, ◌/◌, ◌%◌, ◌^◌, ◌≤◌, ◌<◌}
+use native.Mathlib.Nat.{pow-suc}
 use native.Mathlib.Decide.{dec_le}
 use native.Mathlib.Omega.{arith}
 use lib.Dec.{eqb, leb}
-use lib.Pow.{pow-lt}
-use borrow.Author.Tests.{eqb-true, eq-eqb, leb-true}
-use Rattle.cost.specs.Limits.{within, is_power}
-
-pub both_true : (a b : Bool) → a && b ≡ true → (a ≡ true) × (b ≡ true)
-both_true true b h = (refl, h)
-both_true false b h = (h, cc)
+use lib.Pow.{pow_mono}
+use lib.Count.{ones_step}
+use Rattle.std.proofs.lemmas.Bool.{and_parts, eqb-true, eq-eqb, leb-true}
+use Rattle.std.specs.Prelude.{count_ones}
+use Rattle.std.specs.Int.{is_power_of_two}
+use Rattle.std.proofs.lemmas.Nat.{zero_from_ones, ones_le_self}
+use Rattle.cost.specs.Limits.{most_n, within, is_power, ok_power}
 
 pub within_means : (most x : ℕ) → within most x ≡ true → (1 ≤ x) × (x ≤ most)
-within_means most x h = let both = both_true (leb 1 x) (leb x most) h in (leb-true 1 x both.0, leb-true x most both.1)
-
-pub shifted : (e : ℕ) → e < 64 → 1 * 2 ^ e % 2 ^ 64 ≡ 2 ^ e
-shifted e h = ap (λ (n : ℕ). n % 2 ^ 64) (one-mul (2 ^ e)) ∙ mod-eq_of_lt (pow-lt h)
-
-pub is_power_step : (e N : ℕ) → 0 < e → is_power e N ≡ eqb N (2 ^ e) || is_power (e - 1) N
-unfolding is_power
-is_power_step zero N h = absurd (omega arith)
-is_power_step (suc e) N h = let e₁ : e ≡ suc e - 1 = omega arith in ap (λ (d : ℕ). eqb N (2 ^ suc e) || is_power d N) e₁
-
-pub is_power_none : (N : ℕ) → is_power 0 N ≡ false
-unfolding is_power
-is_power_none N = refl
+within_means most x h = let both = and_parts (leb 1 x) (leb x most) h in (leb-true 1 x both.0, leb-true x most both.1)
 
 -- what passes is a power, and each power passes
 pub power_means : (e N : ℕ) → is_power e N ≡ true → (i : ℕ) × (1 ≤ i) × (i ≤ e) × (N ≡ 2 ^ i)
@@ -51,3 +39,52 @@ power_passes (suc e) i lo hi = go (eqb (2 ^ i) (2 ^ suc e)) refl (power_passes e
           | yes low ↦ rest low
           | no high ↦ (let same : i ≡ suc e = omega arith in let t : ◌≡◌ {A = Bool} true false = sym (eq-eqb (2 ^ i) (2 ^ suc e) (ap (λ (d : ℕ). 2 ^ d) same)) ∙ here in cc)
         ]
+
+-- ---- the library's test, that one bit is set, is the same test from 2 on
+
+halved : (i : ℕ) → 2 ^ suc i / 2 ≡ 2 ^ i
+halved i = omega (arith, pow-suc 2 i)
+
+one_set : (i : ℕ) → count_ones (2 ^ i) ≡ 1
+one_set zero = omega (arith, ones_step 1, ones_le_self 0)
+one_set (suc i) = omega (arith, ones_step (2 ^ suc i), pow-suc 2 i, ap count_ones (halved i), one_set i)
+
+set_once : (d n : ℕ) → n ≤ d → count_ones n ≡ 1 → (i : ℕ) × (n ≡ 2 ^ i)
+set_once zero n h e = absurd (omega (arith, ones_le_self n))
+set_once (suc d) n h e =
+    elim (dec_le 1 (n % 2)) [
+      | yes odd ↦ (0, omega (arith, zero_from_ones (n / 2) (omega (arith, ones_step n))))
+      | no even ↦ (let half = set_once d (n / 2) (omega arith) (omega (arith, ones_step n)) in (suc half.0, omega (arith, half.1, pow-suc 2 half.0)))
+    ]
+
+known : (e n : ℕ) → 2 ≤ n → n < 2 ^ suc e → is_power e n ≡ is_power_of_two n
+known e n some small = go (is_power e n) (is_power_of_two n) refl refl
+  where
+    go : (a b : Bool) → is_power e n ≡ a → is_power_of_two n ≡ b → a ≡ b
+    go true true p set = refl
+    go false false p set = refl
+    go true false p set =
+        let i = power_means e n p in
+        let one : is_power_of_two n ≡ true = eq-eqb _ _ (ap count_ones i.3 ∙ one_set i.0) in
+        sym one ∙ set
+    go false true p set =
+        let i = set_once n n (omega arith) (eqb-true _ _ set) in
+        let lo : 1 ≤ i.0 = elim (dec_le 1 i.0) [ yes h ↦ h | no h ↦ absurd (let none : i.0 ≡ 0 = omega arith in let one : n ≡ 1 = i.1 ∙ ap (λ (d : ℕ). 2 ^ d) none in omega arith) ] in
+        let hi : i.0 ≤ e = elim (dec_le i.0 e) [ yes h ↦ h | no h ↦ absurd (let more : suc e ≤ i.0 = omega arith in omega (arith, pow_mono more, i.1)) ] in
+        sym p ∙ ap (is_power e) i.1 ∙ power_passes e i.0 lo hi
+
+pub power_known : (n : ℕ) → 2 ≤ n → n < 2 ^ 64 → ok_power n ≡ is_power_of_two n
+unfolding ok_power
+power_known n some small = known 63 n some small
+
+pub power_small : (n : ℕ) → n < 2 → ok_power n ≡ false
+unfolding ok_power is_power
+power_small zero h = refl
+power_small (suc zero) h = refl
+power_small (suc (suc n)) h = absurd (omega arith)
+
+pub ruleset powers = (power_known, power_small)
+
+-- from r = 2 on the bound by r is no smaller than the bound on N
+pub wide : (n r : ℕ) → n ≤ most_n → 2 ≤ r → n < 2 ^ (16 * r)
+wide n r small h = let exponent : 32 ≤ 16 * r = omega arith in omega (arith, pow_mono exponent)

@@ -7,15 +7,15 @@ use native.Mathlib.Nat.{pow-suc, mul-one, one-mul, div-le_of_le-mul, mod-mod_of_
 use native.Mathlib.Decide.{dec_le}
 use native.Mathlib.Omega.{arith}
 use lib.Pow.{pow_pos, pow-add}
-use borrow.Author.Tests.{leb-true, le-leb}
+use Rattle.std.proofs.lemmas.Bool.{leb-true, le-leb, lt-leb}
 use Rattle.lent.specs.Bytes.{pick}
 use Rattle.cost.specs.Spacing.{fits, first_fit, spacing}
 
 -- the search, one turn at a time
-pub fit_here : (more N p F k : ℕ) → fits N p F k ≡ true → first_fit more N p F k ≡ k
+pub fit_here : (more N p F k : ℕ) → N / k + p + 3 ≤ F → first_fit more N p F k ≡ k
 unfolding first_fit
 fit_here zero N p F k h = refl
-fit_here (suc more) N p F k h = rw h
+fit_here (suc more) N p F k h = rw (le-leb _ _ h)
 
 pub fit_later : (more N p F k : ℕ) → fits N p F k ≡ false → first_fit (suc more) N p F k ≡ first_fit more N p F (k * 2)
 unfolding first_fit
@@ -100,9 +100,24 @@ pub record Searched (N p F k : ℕ) : Type 0 where
   pub power : k * 2 ^ left ≡ 2 ^ 64
   pub some : 0 < k
 
-pub searched_more : (N p F k : ℕ) → Searched N p F k → fits N p F k ≡ false → k < 2 ^ 62 → Searched N p F (k * 2)
-searched_more N p F k was miss small = go was.left was.same was.power
+pub searched_first : (N p F : ℕ) → Searched N p F 1
+unfolding spacing
+searched_first N p F = record { left = 64; same = refl; power = refl; some = omega arith }
+
+-- while nothing fits, k is below N
+pub searched_more : (N p F k : ℕ) → Searched N p F k → N < 2 ^ 62 → p + 4 ≤ F → F < N / k + p + 3 → Searched N p F (k * 2)
+searched_more N p F k was small room full = go was.left was.same was.power
   where
+    low : k < N
+    low =
+        elim (dec_le N k) [
+          | yes past ↦ absurd (omega (arith, leb-true (N / k + p + 3) F (small_fits N p F k was.some past room), full))
+          | no before ↦ omega arith
+        ]
+
     go : (left : ℕ) → first_fit left N p F k ≡ spacing N p F → k * 2 ^ left ≡ 2 ^ 64 → Searched N p F (k * 2)
-    go zero same power = absurd (omega (arith, power, mul-one k))
-    go (suc left) same power = record { left = left; same = sym (fit_later left N p F k miss) ∙ same; power = twice k left ∙ power; some = omega (arith, was.some) }
+    go zero same power = absurd (omega (arith, power, mul-one k, low))
+    go (suc left) same power =
+        record { left = left; same = sym (fit_later left N p F k (lt-leb _ _ full)) ∙ same; power = twice k left ∙ power; some = omega (arith, was.some) }
+
+pub ruleset turns = (searched_first, searched_more, fit_here)

@@ -2,7 +2,7 @@
 #![tactic(auto)]
 
 ghost use Rattle.std.specs.Prelude.{◌≡◌, ◌+◌, ◌^◌, ◌≤◌, ◌<◌};
-ghost use Rattle.cost.specs.Limits.{within, ok_power, ok_size};
+ghost use Rattle.cost.specs.Limits.{ok_power, ok_size};
 ghost use Rattle.cost.specs.Costs.{flaw_no, checked, power_of, checked_exponent};
 ghost use Rattle.cost.specs.Spacing.{spacing};
 
@@ -17,20 +17,13 @@ pub const MOST_EXPONENT: u64 = 20;
 pub const MOST_N: u64 = 1048576;
 
 // N is 2 to this power. A card holds the exponent and a derivation wants N; one can never pass for
-// the other.
+// the other. So neither has a From<u64>: with `.into()` any number would pass for either.
 #[derive(Clone, Copy)]
 pub struct Exponent(u64);
 
 // N itself: any number, until it is checked.
 #[derive(Clone, Copy)]
 pub struct Power(u64);
-
-// What the one conversion finds.
-#[derive(Clone, Copy)]
-pub enum Converted {
-    N(Power),
-    OutOfRange,
-}
 
 impl Exponent {
     pub fn new(e: u64) -> Exponent
@@ -46,14 +39,15 @@ impl Exponent {
     }
 
     // An exponent of 200 is refused, never shifted by.
-    pub fn power(self) -> Converted
+    #[tactic(auto, unfolding(crate::specs::Costs::power_of))]
+    pub fn power(self) -> Option<Power>
         ensures { result ≡ power_of self }
     {
-        let e = self.0;
-        if between(e, MOST_EXPONENT) {
-            return Converted::N(Power(1u64 << e));
+        if (1..=MOST_EXPONENT).contains(&self.0) {
+            Some(Power(1 << self.0))
+        } else {
+            None
         }
-        Converted::OutOfRange
     }
 }
 
@@ -71,46 +65,25 @@ impl Power {
     }
 }
 
-// Whether x is from 1 to most.
-fn between(x: u64, most: u64) -> bool
-    ensures { result ≡ within most x }
-{
-    if x < 1 {
-        return false;
-    }
-    x <= most
-}
-
 // Whether n is one of 2, 4, 8 .. 2^63.
+#[tactic(auto, using(crate::proofs::Powers::powers))]
 fn is_power(n: u64) -> bool
     ensures { result ≡ ok_power n }
 {
-    let mut e: u32 = 63;
-    while 0 < e {
-        if n == 1u64 << e {
-            return true;
-        }
-        e -= 1;
-    }
-    false
+    2 <= n && n.is_power_of_two()
 }
 
 // Whether n is at most 2^20 and below 2^(16·r): from r = 2 on the second follows from the first.
+#[tactic(auto, using(crate::proofs::Powers::wide))]
 fn size_fits(n: u64, r: u64) -> bool
     requires { 0 < r }
     ensures { result ≡ ok_size n r }
 {
-    if MOST_N < n {
-        return false;
-    }
-    if 2 <= r {
-        return true;
-    }
-    n < 65536
+    n <= MOST_N && (2 <= r || n < 65536)
 }
 
 // What is wrong with a cost.
-#[derive(Clone, Copy)]
+#[derive(Clone, Copy, Debug, PartialEq, Eq)]
 pub enum Flaw {
     BlockSize,
     Lanes,
@@ -118,11 +91,18 @@ pub enum Flaw {
     TooLarge,
 }
 
-// A cost that passed, or the first flaw.
-#[derive(Clone, Copy)]
-pub enum Checked {
-    Good(Cost),
-    Bad(Flaw),
+// The paper's number of a flaw.
+impl From<Flaw> for u64 {
+    ghost from_gives = { λ flaw n. n ≡ flaw_no flaw };
+
+    fn from(flaw: Flaw) -> u64 {
+        match flaw {
+            Flaw::BlockSize => 4,
+            Flaw::Lanes => 5,
+            Flaw::NotPower => 6,
+            Flaw::TooLarge => 7,
+        }
+    }
 }
 
 // The cost settings. A value may be filled in by hand, so nobody who takes one trusts it.
@@ -141,62 +121,52 @@ impl Cost {
         p: 1,
     };
 
-    pub fn new(n: Power, r: u64, p: u64) -> Checked
+    pub fn new(n: Power, r: u64, p: u64) -> Result<Cost, Flaw>
         ensures { result ≡ checked (record { n = n; r = r; p = p }) }
     {
         Cost { n, r, p }.check()
     }
 
-    pub fn of_exponent(e: Exponent, r: u64, p: u64) -> Checked
+    #[tactic(auto, unfolding(crate::specs::Costs::checked_exponent))]
+    pub fn of_exponent(e: Exponent, r: u64, p: u64) -> Result<Cost, Flaw>
         ensures { result ≡ checked_exponent e r p }
     {
-        match e.power() {
-            Converted::N(n) => Cost::new(n, r, p),
-            Converted::OutOfRange => Checked::Bad(Flaw::TooLarge),
-        }
+        let n = e.power().ok_or(Flaw::TooLarge)?;
+        Cost::new(n, r, p)
     }
 
     // The cost itself, or the first of refusals 4 to 7 that applies.
-    pub fn check(self) -> Checked
+    #[tactic(auto, unfolding(crate::specs::Costs::checked))]
+    pub fn check(self) -> Result<Cost, Flaw>
         ensures { result ≡ checked self }
     {
         let n = self.n.number();
-        if !between(self.r, MOST_R) {
-            return Checked::Bad(Flaw::BlockSize);
+        if !(1..=MOST_R).contains(&self.r) {
+            return Err(Flaw::BlockSize);
         }
-        if !between(self.p, MOST_P) {
-            return Checked::Bad(Flaw::Lanes);
+        if !(1..=MOST_P).contains(&self.p) {
+            return Err(Flaw::Lanes);
         }
         if !is_power(n) {
-            return Checked::Bad(Flaw::NotPower);
+            return Err(Flaw::NotPower);
         }
         if !size_fits(n, self.r) {
-            return Checked::Bad(Flaw::TooLarge);
+            return Err(Flaw::TooLarge);
         }
-        Checked::Good(self)
+        Ok(self)
     }
 }
 
-// The smallest power of two k with n / k + p + 3 at most f.
+// The smallest power of two k with n / k + p + 3 at most f. It doubles until it fits: no index is
+// counted, so the `while` is the plain form.
+#[tactic(auto, using(crate::proofs::Spacings::turns))]
 pub fn space(n: u64, p: u64, f: u64) -> u64
     requires { (0 < n) × (n < 2 ^ 62) × (p < 2 ^ 62) × (p + 4 ≤ f) }
     ensures { result ≡ spacing n p f }
 {
     let mut k = 1;
     while f < n / k + p + 3 {
-        k = k * 2;
+        k *= 2;
     }
     k
-}
-
-// The paper's number of a flaw.
-pub fn flaw_number(flaw: Flaw) -> u64
-    ensures { result ≡ flaw_no flaw }
-{
-    match flaw {
-        Flaw::BlockSize => 4,
-        Flaw::Lanes => 5,
-        Flaw::NotPower => 6,
-        Flaw::TooLarge => 7,
-    }
 }

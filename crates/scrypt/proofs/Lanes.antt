@@ -5,9 +5,9 @@ use Prim.Native.Nat.{ℕ, ◌+◌, ◌*◌, ◌≤◌, ◌<◌}
 use native.Mathlib.Nat.{mul-le-mul_right}
 use native.Mathlib.Omega.{arith}
 use lib.ListN.{length}
-use lib.Seq.{sets}
+use lib.Seq.{sets, length-take-le}
 use Rattle.lent.specs.Bytes.{part, joined}
-use Rattle.lent.proofs.Parts.{part-written}
+use Rattle.lent.proofs.Parts.{part-written, sets_prefix}
 use Rattle.lent.proofs.Tabs.{joined_ext}
 use Rattle.pbkdf2.proofs.Laws.{length-pbkdf2}
 use Rattle.romix.specs.ROMix.{ro_mix, sum, mixings}
@@ -29,3 +29,6 @@ module _ (P S : List ℕ) (r p : ℕ) (s : List ℕ) (room : p * (128 * r) ≤ l
   pub lanes-mixed : (N : ℕ) → joined p (λ l. ro_mix r N (part (l * (128 * r)) (128 * r) (sets s 0 (lanes P S r p)))) ≡ mixed_lanes P S N r p
   unfolding mixed_lanes
   lanes-mixed N = joined_ext p _ _ (λ l h. ap (ro_mix r N) (lane_read l h))
+
+-- what lies behind the lanes stays
+pub ruleset laying = (sets_prefix, length-pbkdf2, length-take-le)

@@ -5,7 +5,7 @@ use Prim.Native.Nat.{ℕ, ◌+◌, ◌-◌, ◌*◌, ◌/◌, ◌^◌, ◌≤◌
 use native.Mathlib.Nat.{mul-le-mul, div-mul_cancel, dvd-mul_right}
 use native.Mathlib.Omega.{arith}
 use lib.Pow.{pow_pos, pow_mono, pow-add}
-use borrow.Author.Tests.{leb-true}
+use Rattle.std.proofs.lemmas.Bool.{leb-true}
 use Rattle.cost.specs.declared.Cost.{Cost}
 use Rattle.cost.specs.Limits.{most_n, most_p}
 use Rattle.cost.specs.Spacing.{spacing}
@@ -42,3 +42,5 @@ module _ (c : Cost) (sound : Sound c) (F : ℕ) (room : c.p + 4 ≤ F) where
   -- and lie within the scratch with the lanes and the working room
   pub stored_fit : c.n.0 / spacing c.n.0 c.p F + c.p + 3 ≤ F
   stored_fit = rw sound.power (rw sound.power at (leb-true _ F spaced.fit))
+
+pub ruleset sizes = (some_spacing, most_spacing, worst_small, worst_fits)

@@ -3,7 +3,8 @@
 use mathlib.Core.Path.{◌≡◌}
 use mathlib.Core.List.{List, [], ◌∷◌, map}
 use Prim.Native.Nat.{ℕ, ◌≤◌}
-use borrow.Author.Tests.{le-leb}
+use Rattle.std.specs.Prelude.{Result, Ok, Err}
+use Rattle.std.proofs.lemmas.Bool.{le-leb}
 use Rattle.lent.specs.Bytes.{zeros}
 use Rattle.salsa.specs.Salsa.{salsa_bytes}
 use Rattle.salsa.proofs.Vectors.{core_of_zeros}
@@ -12,7 +13,7 @@ use Rattle.cost.specs.Limits.{is_power, ok_power}
 use Rattle.cost.specs.Costs.{checked}
 use Rattle.cost.specs.Spacing.{first_fit, spacing}
 use Rattle.scrypt.specs.declared.Plan.{Plan}
-use Rattle.scrypt.specs.declared.Plan.TheVariants.{Go, No}
+use Rattle.scrypt.specs.declared.Reason.{Reason}
 use Rattle.scrypt.specs.Limits.{longest_passphrase, longest_salt, longest_key}
 use Rattle.scrypt.specs.Plans.{reason_no, afforded, plan_of}
 
@@ -35,9 +36,9 @@ module _ (pass salt key : ℕ) (one_pass : pass ≤ longest_passphrase) (one_sal
   cost : ℕ → ℕ → ℕ → Cost
   cost N r p = record { n = record { 0 = N }; r = r; p = p }
 
-  said : Plan → Told
-  said (Go k w) = spaced k w
-  said (No why) = refused (reason_no why)
+  said : Result Plan Reason → Told
+  said (Ok plan) = spaced plan.spacing plan.stored
+  said (Err why) = refused (reason_no why)
 
   pub answer : Asked → Told
   answer (derive N r p scratch allowance) = said (plan_of pass salt key scratch allowance (cost N r p))
