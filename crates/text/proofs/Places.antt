@@ -4,7 +4,7 @@
 use mathlib.Core.Path.{◌≡◌, refl, sym, ap, ◌∙◌}
 use mathlib.Core.Bool.{Bool, true, false}
 use mathlib.Core.List.{List}
-use Prim.Native.Nat.{ℕ, zero, suc, ◌-◌, ◌≤◌, ◌<◌}
+use Prim.Native.Nat.{ℕ, zero, suc, ◌+◌, ◌≤◌, ◌<◌}
 use native.Mathlib.Decide.{dec_lt}
 use native.Mathlib.Omega.{arith}
 use lib.Dec.{eqb}
@@ -16,16 +16,6 @@ use Rattle.text.specs.Login.{colon, last_below, colon_place}
 -- place j of the text holds a colon
 abbrev pub Colon : List ℕ → ℕ → Type 0
 Colon text j = get_or text j 0 ≡ colon
-
-pub last_none : (text : List ℕ) → last_below 0 text ≡ length text
-unfolding last_below
-last_none text = refl
-
--- one place less: a turn of the search
-pub last_step : (i : ℕ) (text : List ℕ) → 0 < i → last_below i text ≡ pick (eqb (get_or text (i - 1) 0) colon) (i - 1) (last_below (i - 1) text)
-unfolding last_below
-last_step zero text h = absurd (omega arith)
-last_step (suc i) text h = let e : i ≡ suc i - 1 = omega arith in ap (λ (j : ℕ). pick (eqb (get_or text j 0) colon) j (last_below j text)) e
 
 -- What the search below i found at place `at`: a colon, unless `at` is the text's length; and none lies after it, nor anywhere where it found none.
 pub record Last (text : List ℕ) (i at : ℕ) : Type 0 where
@@ -70,3 +60,11 @@ last_only {text} {a} {b} x y =
       | yes low ↦ absurd (last_not_before x y low)
       | no high ↦ elim (dec_lt b a) [ yes low ↦ absurd (last_not_before y x low) | no same ↦ omega arith ]
     ]
+
+-- what `text::colon` answers: the place, where there is one
+pub place_found : (text : List ℕ) (at : ℕ) → at < length text → get_or text at 0 ≡ colon → ((j : ℕ) → at + 1 ≤ j → j < length text → get_or text j 0 ≡ colon → ⊥) → colon_place text ≡ at
+place_found text at inside held after =
+    last_only (colon_is text) (record { within = omega arith; held = λ h. held; after = λ j k past c. after j (let p = past inside in omega arith) k c })
+
+pub place_none : (text : List ℕ) → ((j : ℕ) → j < length text → get_or text j 0 ≡ colon → ⊥) → colon_place text ≡ length text
+place_none text clean = last_only (colon_is text) (record { within = omega arith; held = λ h. absurd (omega arith); after = λ j k past c. clean j k c })

@@ -10,7 +10,7 @@ use native.Mathlib.Numerals.{add-one}
 use native.Mathlib.Omega.{arith}
 use lib.Dec.{leb, ltb, lit<}
 use lib.ListN.{length, get_or, take, drop, length-append, length-drop}
-use lib.Seq.{drop-length, split_at, take-append_seam, drop-append-add, get_or-append_seam, get_or-append-add, get_or-drop}
+use lib.Seq.{drop-length, split_at, take-append_seam, drop-append-add, get_or-append_seam, get_or-append-add, get_or-drop, length-take-le}
 use borrow.Author.Tests.{ltb-true, leb-true, lt-ltb, le-ltb, le-leb}
 use Rattle.lent.specs.Bytes.{pick}
 use Rattle.lent.proofs.Picks.{pick_any, pick-passed}
@@ -56,10 +56,10 @@ parted_some n at h e = go (leb 1 at && leb at most_user) (rw (lt-ltb at n h) at 
 -- ---- by the text
 
 -- what is answered lies within the text, refused or not
-abbrev pub Within : ℕ → Reading → Type 0
+abbrev Within : ℕ → Reading → Type 0
 Within n x = (x.user ≤ n) × (x.password ≤ n)
 
-pub within : (text : List ℕ) → Within (length text) (read_of text)
+pub within : (text : List ℕ) → ((read_of text).user ≤ length text) × ((read_of text).password ≤ length text)
 unfolding read_of parted
 within text =
     let n = length text in
@@ -69,6 +69,9 @@ within text =
     let low : at < n = ltb-true at n inside in
     pick_any (Within n) (leb 1 at && leb at most_user) (split n at) (refused 32) (λ h. (omega arith, omega arith)) (λ h. (omega arith, omega arith)))
     (λ none. (omega arith, omega arith))
+
+-- what bounds its parts
+pub ruleset bounds = (within, length-take-le)
 
 -- no place of it holds a colon
 abbrev pub Clean : List ℕ → Type 0

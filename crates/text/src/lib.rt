@@ -1,9 +1,10 @@
 // The login text, `user:password`: where it parts, and when it is refused.
 #![tactic(auto)]
 
-ghost use Rattle.std.specs.Prelude.{◌≡◌};
+ghost use Rattle.std.specs.Prelude.{◌≡◌, ◌<◌, length};
+ghost use Rattle.std.specs.Option.{ForSome, ForNone};
 ghost use Rattle.text.specs.Login.{colon_place, read_of, user_of, password_of};
-ghost use Rattle.text.specs.Paper.{reason_no, paper, lengths_of};
+ghost use Rattle.text.specs.Paper.{reason_no, paper};
 
 const COLON: u8 = b':';
 
@@ -11,10 +12,22 @@ const COLON: u8 = b':';
 const MOST_USER: usize = 64;
 
 // Why a text is refused.
-#[derive(Clone, Copy)]
+#[derive(Clone, Copy, Debug, PartialEq, Eq)]
 pub enum Reason {
     NoColon,
     UserLength,
+}
+
+// The paper's number of a reason.
+impl From<Reason> for u64 {
+    ghost from_gives = { λ why n. n ≡ reason_no why };
+
+    fn from(why: Reason) -> u64 {
+        match why {
+            Reason::NoColon => 31,
+            Reason::UserLength => 32,
+        }
+    }
 }
 
 // The lengths of the two parts: the user name is the text's front, the password its end.
@@ -24,85 +37,48 @@ pub struct Split {
     pub password: usize,
 }
 
-#[derive(Clone, Copy)]
-pub enum Text {
-    Good(Split),
-    Refused(Reason),
-}
-
-// The place of the colon that parts the text, or the text's length where there is none.
-fn colon(text: &[u8]) -> usize
-    ensures { result ≡ colon_place text.now }
+// The place of the colon that parts the text, if there is one.
+#[tactic(auto, using(crate::proofs::Places::place_found, crate::proofs::Places::place_none))]
+fn colon(text: &[u8]) -> Option<usize>
+    ensures found { ForSome result (λ at. (colon_place text.now ≡ at) × (at < length text.now)) }
+    ensures none { ForNone result (colon_place text.now ≡ length text.now) }
 {
-    let n = text.len();
-    let mut i = n;
-    while 0 < i {
-        i -= 1;
-        if text[i] == COLON {
-            return i;
-        }
-    }
-    n
+    text.iter().rposition(|&b| b == COLON)
 }
 
 // The text's two lengths, or the first refusal that applies.
 #[tactic(auto, unfolding(crate::specs::Login::read_of, crate::specs::Login::parted))]
-pub fn read(text: &[u8]) -> Text
+pub fn read(text: &[u8]) -> Result<Split, Reason>
     ensures { paper result ≡ read_of text.now }
 {
-    let n = text.len();
-    let at = colon(text);
-    if n <= at {
-        return Text::Refused(Reason::NoColon);
+    let at = colon(text).ok_or(Reason::NoColon)?;
+    if !(1..=MOST_USER).contains(&at) {
+        return Err(Reason::UserLength);
     }
-    if at < 1 {
-        return Text::Refused(Reason::UserLength);
-    }
-    if MOST_USER < at {
-        return Text::Refused(Reason::UserLength);
-    }
-    Text::Good(Split {
+    Ok(Split {
         user: at,
-        password: n - at - 1,
+        password: text.len() - at - 1,
     })
 }
 
-// The two lengths, both 0 where the text is refused.
-fn lengths(text: &[u8]) -> Split
-    ensures { result ≡ lengths_of (read_of text.now) }
-{
-    match read(text) {
-        Text::Good(s) => s,
-        Text::Refused(_) => Split {
-            user: 0,
-            password: 0,
-        },
-    }
-}
-
 // The user name; empty where the text is refused.
+#[tactic(auto, using(crate::proofs::Splits::bounds), unfolding(crate::specs::Login::user_of))]
 pub fn user(text: &[u8]) -> &[u8]
     ensures { result.now ≡ user_of text.now }
 {
-    let n = lengths(text).user;
-    &text[0..n]
+    match read(text) {
+        Ok(s) => &text[..s.user],
+        Err(_) => &[],
+    }
 }
 
 // The password; empty where the text is refused, and where it is empty.
+#[tactic(auto, using(crate::proofs::Splits::within), unfolding(crate::specs::Login::password_of))]
 pub fn password(text: &[u8]) -> &[u8]
     ensures { result.now ≡ password_of text.now }
 {
-    let n = lengths(text).password;
-    let at = text.len() - n;
-    &text[at..]
-}
-
-// The paper's number of a reason.
-pub fn reason_number(why: Reason) -> u64
-    ensures { result ≡ reason_no why }
-{
-    match why {
-        Reason::NoColon => 31,
-        Reason::UserLength => 32,
+    match read(text) {
+        Ok(s) => &text[text.len() - s.password..],
+        Err(_) => &[],
     }
 }
