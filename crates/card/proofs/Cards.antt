@@ -2,9 +2,9 @@
 -- writing what it says would make.
 -- Assumes nothing.
 use mathlib.Core.Path.{◌≡◌, refl, sym, ap, ◌∙◌}
-use mathlib.Core.Bool.{true, false, and-false, and-eq-true_iff}
+use mathlib.Core.Bool.{true, and-false, and-eq-true_iff}
 use mathlib.Core.List.{List, ◌++◌, append_assoc}
-use Prim.Native.Nat.{ℕ, ◌+◌, ◌-◌, ◌≤◌}
+use Prim.Native.Nat.{ℕ, ◌+◌, ◌-◌, ◌≤◌, ◌<◌}
 use native.Mathlib.Omega.{arith}
 use lib.Dec.{leb, eqb, lit<}
 use lib.ListN.{length, take, drop, length-append, length-drop, take-append-drop}
@@ -31,10 +31,6 @@ lengths_mean salt key h =
     let s = from_to_means 8 64 salt both.1 in
     (s.0, s.1, k.0, k.1)
 
--- a salt that would begin inside the key
-pub lengths_none : (salt key : ℕ) → salt ≡ 0 → ok_lengths salt key ≡ false
-lengths_none salt key h = rw h (and-false (from_to 16 64 key))
-
 abbrev pub number : Reading → ℕ
 number x = x.refusal
 
@@ -53,6 +49,11 @@ meant_means salt key e r p h =
     let lengths = pick-passed number (ok_lengths salt key) _ (refused 24) (lit< tt) h in
     let costs = pick-passed number (ok_costs e r p) _ (refused 25) (lit< tt) lengths.1 in
     record { lengths = lengths.0; costs = costs.0 }
+
+-- a salt that would begin inside the key
+pub meant_none : (back key e r p : ℕ) → back < key → meant_of (back - key) key e r p ≡ refused 24
+unfolding meant_of
+meant_none back key e r p h = let none : back - key ≡ 0 = omega arith in rw (none, and-false (from_to 16 64 key))
 
 -- ---- 23 to 25, by the trailer
 

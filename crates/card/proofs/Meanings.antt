@@ -4,19 +4,23 @@
 use mathlib.Core.Path.{◌≡◌, refl, sym, ap, ◌∙◌}
 use mathlib.Core.Logic.{◌↔◌}
 use mathlib.Core.Bool.{Bool, true, false}
-use mathlib.Core.List.{List, []}
-use Prim.Native.Nat.{ℕ, ◌+◌, ◌-◌, ◌≤◌}
+use mathlib.Core.List.{List, [], ◌++◌}
+use Prim.Native.Nat.{ℕ, ◌+◌, ◌-◌, ◌≤◌, ◌<◌}
 use native.Mathlib.Decide.{dec_le}
 use native.Mathlib.Omega.{arith}
 use lib.Dec.{leb, eqb, lit<}
-use lib.ListN.{length, take}
+use lib.ListN.{length, take, drop}
 use lib.Seq.{sets, length-take-le}
-use borrow.Author.Tests.{leb-true, le-leb, eqb-true, eqb-false}
+use borrow.Author.Tests.{leb-true, le-leb, lt-leb, eqb-true, eqb-false}
 use Rattle.lent.specs.Bytes.{pick, Bytes}
 use Rattle.lent.proofs.Picks.{pick-passed}
 use Rattle.lent.proofs.Parts.{length-part, part-sets_same}
-use Rattle.card.specs.Layout.{Edition, first, Trailer, trailer_length, card_bytes, ends_in, trailer_in, trailer_of}
+use Rattle.card.specs.Layout.{Edition, first, Trailer, trailer_length, trailer_bytes, trailer_saying, card_bytes, ends_in, trailer_in, trailer_of}
 use Rattle.card.specs.Refusals.{ok_lengths, ok_costs, Reading, refused, accepted, meant_of, judged, read_as, read_of, salt_of, key_of, Writing, kept, placed, write_of}
+use Rattle.card.specs.declared.Reason.{Reason}
+use Rattle.card.specs.Paper.{reason_no}
+use Rattle.card.proofs.Answers.{number_not_zero}
+use Rattle.card.proofs.Trailers.{trailer_drop}
 use Rattle.card.proofs.Cards.{number, Meant, meant_good, meant_means, Judged, judged_good, judged_means, lengths_mean, length-card, written_ends, written_reads, written-salt, written-key, accepted_only}
 
 -- ---- what is accepted
@@ -30,6 +34,11 @@ pub record Accepted (card : List ℕ) : Type 0 where
 read_as_lem : {card : List ℕ} → Accepted card → read_of card ≡ read_as first card
 unfolding read_of
 read_as_lem h = rw (le-leb _ _ h.room, h.ends)
+
+-- a card that has its ending says what its last bytes say
+pub read_marked : (card : List ℕ) → trailer_length first ≤ length card → ends_in first.mark card ≡ true → read_of card ≡ judged first (length card) (trailer_in first 0 (drop (length card - trailer_length first) card))
+unfolding read_of
+read_marked card room ends = rw (le-leb _ _ room, ends, trailer_drop first (length card - trailer_length first) card)
 
 pub accepted_means : (card : List ℕ) → (read_of card).refusal ≡ 0 → Accepted card
 unfolding read_of
@@ -88,6 +97,9 @@ within card =
       | yes good ↦ (let zero : (read_of card).refusal ≡ 0 = omega arith in omega (arith, accepted_long card zero))
       | no bad ↦ rw (refused_bare card (λ z. bad (omega arith))) (omega arith)
     ]
+
+-- what bounds them
+pub ruleset bounds = (within, length-take-le)
 
 pub length-salt : (card : List ℕ) → length (salt_of card) ≡ (read_of card).salt
 unfolding salt_of
@@ -164,6 +176,22 @@ write_means salt key e r p room h =
         → (n ≡ 0) × ((placed (card_bytes first [] salt key e r p) room).refusal ≡ 0)
     go n true zero k = (eqb-true n 0 zero, k)
     go n false other k = absurd (eqb-false n 0 other k)
+
+-- the three ways out of `card::write`: the numbers do not pass, the room is too short, or the card is laid over its front
+pub write_refused : (salt key : List ℕ) (e r p : ℕ) (room : List ℕ) (why : Reason) → refused (reason_no why) ≡ meant_of (length salt) (length key) e r p
+    → write_of salt key e r p room ≡ kept (reason_no why) room
+unfolding write_of
+write_refused salt key e r p room why h = rw (← h) (number_not_zero why _ _)
+
+module _ (salt key : List ℕ) (e r p : ℕ) (room : List ℕ) (passed : (meant_of (length salt) (length key) e r p).refusal ≡ 0) where
+  pub write_short : length room < length salt + length key + trailer_length first → write_of salt key e r p room ≡ kept 26 room
+  unfolding write_of
+  write_short h = rw (passed, length-card first [] salt key e r p refl, lt-leb _ _ h)
+
+  pub write_laid : length salt + length key + trailer_length first ≤ length room
+      → write_of salt key e r p room ≡ record { refusal = 0; long = length salt + length key + trailer_length first; room = sets room 0 (salt ++ key ++ trailer_bytes first (trailer_saying first [] (length salt + length key) (length key) e r p)) }
+  unfolding write_of card_bytes
+  write_laid h = rw (passed, length-card first [] salt key e r p refl, le-leb _ _ h)
 
 -- what is written reads back: the front of the room, as long as was answered, is a card that says what was given
 pub write_reads : (salt key : List ℕ) (e r p : ℕ) (room : List ℕ) → let w = write_of salt key e r p room in w.refusal ≡ 0

@@ -1,9 +1,7 @@
 -- What a card means, and when it is refused: the table of 21 to 26, each given where it is the first that applies.
-use Rattle.std.specs.Prelude.{Bool, true, false, ◌&&◌, List, [], ℕ, ◌+◌, ◌-◌, leb, eqb, length, take}
+use Rattle.std.specs.Prelude.{Bool, ◌&&◌, List, [], ℕ, ◌+◌, ◌-◌, leb, eqb, length, take, is_ok}
 use Rattle.std.proofs.lemmas.List.Edits.{sets}
 use Rattle.lent.specs.Bytes.{pick, part}
-use Rattle.cost.specs.declared.Checked.{Checked}
-use Rattle.cost.specs.declared.Checked.TheVariants.{Good, Bad}
 use Rattle.cost.specs.Costs.{checked_exponent}
 use Rattle.card.specs.Layout.{Edition, first, Trailer, trailer_length, card_bytes, ends_in, trailer_of}
 
@@ -17,12 +15,8 @@ abbrev pub ok_lengths : ℕ → ℕ → Bool
 ok_lengths salt key = from_to 16 64 key && from_to 8 64 salt
 
 -- an exponent, r and p whose cost is not refused
-abbrev pub passed : Checked → Bool
-passed (Good c) = true
-passed (Bad f) = false
-
 unfoldable pub ok_costs : ℕ → ℕ → ℕ → Bool
-ok_costs e r p = passed (checked_exponent (record { 0 = e }) r p)
+ok_costs e r p = is_ok (checked_exponent (record { 0 = e }) r p)
 
 -- ---- reading
 

@@ -2,18 +2,18 @@
 // read, and get an answer.
 #![tactic(auto)]
 
-ghost use Rattle.std.specs.Prelude.{◌≡◌, [], ◌+◌, ◌≤◌, ◌<◌, length, get_or};
+ghost use Rattle.std.specs.Prelude.{◌≡◌, [], ◌++◌, ◌+◌, ◌≤◌, ◌<◌, length};
 ghost use Rattle.std.proofs.lemmas.List.Edits.{sets};
-ghost use Rattle.lent.specs.Bytes.{part};
-ghost use Rattle.lent.specs.Word.{le, of_le};
-ghost use Rattle.card.specs.Layout.{first, trailer_length, trailer_bytes, trailer_saying, card_bytes, ends_in, claimed_of};
-ghost use Rattle.card.specs.Refusals.{from_to, ok_lengths, meant_of, read_as, read_of, salt_of, key_of, write_of};
-ghost use Rattle.card.specs.Paper.{reason_no, paper, paper_written, lengths_of};
+ghost use Rattle.lent.specs.Word.{of_le};
+ghost use Rattle.card.specs.declared.Reason.TheVariants.{Costs};
+ghost use Rattle.card.specs.Layout.{first, trailer_length, trailer_bytes, trailer_saying, trailer_in, claimed_of};
+ghost use Rattle.card.specs.Refusals.{ok_lengths, meant_of, judged, read_of, salt_of, key_of, write_of};
+ghost use Rattle.card.specs.Paper.{reason_no, paper, paper_written};
 
-use cost::{Checked, Cost, Exponent};
+use cost::{Cost, Exponent, Flaw};
 
 // What edition 1 has of its own, and how long that makes its trailer: `first` of specs/Layout.antt.
-const EDITION: u64 = 1;
+const EDITION: u8 = 1;
 
 const MARK: [u8; 4] = *b"RTKC";
 
@@ -29,7 +29,7 @@ const LEAST_KEY: usize = 16;
 const MOST_KEY: usize = 64;
 
 // Why a card is not read, or not written.
-#[derive(Clone, Copy)]
+#[derive(Clone, Copy, Debug, PartialEq, Eq)]
 pub enum Reason {
     Short,
     Unmarked,
@@ -37,6 +37,31 @@ pub enum Reason {
     Lengths,
     Costs,
     Room,
+}
+
+// The paper's number of a reason.
+impl From<Reason> for u64 {
+    ghost from_gives = { λ why n. n ≡ reason_no why };
+
+    fn from(why: Reason) -> u64 {
+        match why {
+            Reason::Short => 21,
+            Reason::Unmarked => 22,
+            Reason::OtherEdition => 23,
+            Reason::Lengths => 24,
+            Reason::Costs => 25,
+            Reason::Room => 26,
+        }
+    }
+}
+
+// A card is refused for its costs as a whole, whatever is wrong with them.
+impl From<Flaw> for Reason {
+    ghost from_gives = { λ _ why. why ≡ Costs };
+
+    fn from(_flaw: Flaw) -> Reason {
+        Self::Costs
+    }
 }
 
 // What a card says beside its bytes: the costs, and how long its parts are. The salt lies at the
@@ -50,209 +75,144 @@ pub struct Meaning {
     pub key: usize,
 }
 
-#[derive(Clone, Copy)]
-pub enum Card {
-    Good(Meaning),
-    Refused(Reason),
-}
-
-// The length of the card that was written.
-#[derive(Clone, Copy)]
-pub enum Written {
-    Length(usize),
-    Refused(Reason),
-}
-
-#[derive(Clone, Copy)]
-struct Split {
-    salt: usize,
-    key: usize,
-}
-
 // ---- what reader and writer share
 
-// Whether x is from low to high.
-fn between(low: usize, high: usize, x: usize) -> bool
-    ensures { result ≡ from_to low high x }
-{
-    if x < low {
-        return false;
+impl Meaning {
+    fn lengths_fit(self) -> bool
+        ensures { result ≡ ok_lengths self.salt self.key }
+    {
+        (LEAST_KEY..=MOST_KEY).contains(&self.key) && (LEAST_SALT..=MOST_SALT).contains(&self.salt)
     }
-    x <= high
-}
 
-fn lengths_fit(salt: usize, key: usize) -> bool
-    ensures { result ≡ ok_lengths salt key }
-{
-    if !between(LEAST_KEY, MOST_KEY, key) {
-        return false;
-    }
-    between(LEAST_SALT, MOST_SALT, salt)
-}
-
-// What these numbers mean on a card, or the first of 24 and 25 that applies.
-fn meant(salt: usize, key: usize, exponent: Exponent, r: u64, p: u64) -> Card
-    ensures { paper result ≡ meant_of salt key exponent.0 r p }
-{
-    if !lengths_fit(salt, key) {
-        return Card::Refused(Reason::Lengths);
-    }
-    match Cost::of_exponent(exponent, r, p) {
-        Checked::Good(_) => Card::Good(Meaning {
-            exponent,
-            r,
-            p,
-            salt,
-            key,
-        }),
-        Checked::Bad(_) => Card::Refused(Reason::Costs),
+    // The meaning as it is, or the first of 24 and 25 that applies.
+    #[tactic(auto, unfolding(crate::specs::Refusals::meant_of, crate::specs::Refusals::ok_costs))]
+    fn check(self) -> Result<Meaning, Reason>
+        ensures { paper result ≡ meant_of self.salt self.key self.exponent.0 self.r self.p }
+    {
+        if !self.lengths_fit() {
+            return Err(Reason::Lengths);
+        }
+        Cost::of_exponent(self.exponent, self.r, self.p)?;
+        Ok(self)
     }
 }
 
 // ---- reading
 
-// The byte at place at. That it stays below 256 saves every caller the proof.
-fn byte(s: &[u8], at: usize) -> u64
-    requires { at < length s.now }
-    ensures { (result ≡ get_or s.now at 0) × (result < 256) }
+// The distance that two bytes say.
+#[tactic(auto, unfolding(lent::specs::Word::of_le))]
+fn distance(bytes: [u8; 2]) -> usize
+    ensures { (result ≡ of_le bytes) × (result < 65536) }
 {
-    lent::wide(s[at]) as u64
+    usize::from(u16::from_le_bytes(bytes))
 }
 
-// The distance that the two bytes at place at say.
-fn distance(s: &[u8], at: usize) -> usize
-    requires { at + 2 ≤ length s.now }
-    ensures { (result ≡ of_le (part at 2 s.now)) × (result < 65536) }
+// 23 to 25, for a card whose trailer stands behind at bytes.
+#[tactic(auto, using(crate::proofs::Cards::meant_none), unfolding(crate::specs::Refusals::judged, crate::specs::Layout::trailer_in))]
+fn judge(at: usize, trailer: &[u8; TRAILER]) -> Result<Meaning, Reason>
+    ensures { paper result ≡ judged first (at + trailer_length first) (trailer_in first 0 trailer.now) }
 {
-    byte(s, at) as usize + 256 * (byte(s, at + 1) as usize)
-}
-
-fn ends_in(card: &[u8], mark: &[u8]) -> bool
-    requires { length mark.now ≤ length card.now }
-    ensures { result ≡ ends_in mark.now card.now }
-{
-    let at = card.len() - mark.len();
-    lent::same(&card[at..], mark)
-}
-
-// 23 to 25, for a card whose trailer begins at place at.
-fn judge(card: &[u8], at: usize) -> Card
-    requires { at + trailer_length first ≡ length card.now }
-    ensures { paper result ≡ read_as first card.now }
-{
-    if byte(card, at + 4) != EDITION {
-        return Card::Refused(Reason::OtherEdition);
+    let [s0, s1, k0, k1, edition, e, r, p, ..] = *trailer;
+    if edition != EDITION {
+        return Err(Reason::OtherEdition);
     }
-    let back = distance(card, at);
-    let key = distance(card, at + 2);
+    let back = distance([s0, s1]);
+    let key = distance([k0, k1]);
     if back != at {
-        return Card::Refused(Reason::Lengths);
+        return Err(Reason::Lengths);
     }
     // Never wrapped: a salt that would begin inside the key is refused first.
     if back < key {
-        return Card::Refused(Reason::Lengths);
+        return Err(Reason::Lengths);
     }
-    meant(
-        back - key,
+    let meaning = Meaning {
+        exponent: Exponent::new(u64::from(e)),
+        r: u64::from(r),
+        p: u64::from(p),
+        salt: back - key,
         key,
-        Exponent::new(byte(card, at + 5)),
-        byte(card, at + 6),
-        byte(card, at + 7),
-    )
+    };
+    meaning.check()
 }
 
 // The numbers on the card, or the first refusal that applies.
-pub fn read(card: &[u8]) -> Card
+#[tactic(auto, using(crate::proofs::Pieces::ends_in_is, crate::proofs::Meanings::read_marked), unfolding(crate::specs::Refusals::read_of))]
+pub fn read(card: &[u8]) -> Result<Meaning, Reason>
     ensures { paper result ≡ read_of card.now }
 {
-    let n = card.len();
-    if n < TRAILER {
-        return Card::Refused(Reason::Short);
+    let (parts, trailer) = card.split_last_chunk().ok_or(Reason::Short)?;
+    if !card.ends_with(&MARK) {
+        return Err(Reason::Unmarked);
     }
-    if !ends_in(card, &MARK) {
-        return Card::Refused(Reason::Unmarked);
-    }
-    judge(card, n - TRAILER)
-}
-
-// How long the parts are, both 0 where the card is refused.
-fn lengths(card: &[u8]) -> Split
-    ensures { result ≡ lengths_of (read_of card.now) }
-{
-    match read(card) {
-        Card::Good(m) => Split {
-            salt: m.salt,
-            key: m.key,
-        },
-        Card::Refused(_) => Split { salt: 0, key: 0 },
-    }
+    judge(parts.len(), trailer)
 }
 
 // The salt; empty where the card is refused.
+#[tactic(auto, using(crate::proofs::Meanings::bounds), unfolding(crate::specs::Refusals::salt_of))]
 pub fn salt(card: &[u8]) -> &[u8]
     ensures { result.now ≡ salt_of card.now }
 {
-    let n = lengths(card).salt;
-    &card[0..n]
+    match read(card) {
+        Ok(m) => &card[..m.salt],
+        Err(_) => &[],
+    }
 }
 
 // The key; empty where the card is refused.
+#[tactic(auto, using(crate::proofs::Meanings::within), unfolding(crate::specs::Refusals::key_of))]
 pub fn key(card: &[u8]) -> &[u8]
     ensures { result.now ≡ key_of card.now }
 {
-    let l = lengths(card);
-    let at = l.salt;
-    let end = at + l.key;
-    &card[at..end]
+    match read(card) {
+        Ok(m) => &card[m.salt..m.salt + m.key],
+        Err(_) => &[],
+    }
 }
 
 // How long the card at the end of these bytes says it is, and 0 where they hold no trailer. Whoever
 // keeps cards one behind the other finds the last by it, and reads that part alone.
+#[tactic(auto, unfolding(crate::specs::Layout::claimed_of, crate::specs::Layout::trailer_in))]
 pub fn claimed(bytes: &[u8]) -> usize
     ensures { result ≡ claimed_of bytes.now }
 {
-    let n = bytes.len();
-    if n < TRAILER {
-        return 0;
+    match bytes.last_chunk::<TRAILER>() {
+        Some(&[s0, s1, ..]) => distance([s0, s1]) + TRAILER,
+        None => 0,
     }
-    distance(bytes, n - TRAILER) + TRAILER
 }
 
 // ---- writing
 
-// Writes a distance over the two bytes at place at.
-fn put_distance(s: &mut [u8], at: usize, x: usize)
-    requires { at + 2 ≤ length s.old }
-    ensures { s.new ≡ sets s.old at (le 2 x) }
-{
-    s[at] = (x % 256) as u8;
-    s[at + 1] = (x / 256 % 256) as u8;
-}
-
-// Writes the trailer at place at, for a key of that length.
-fn put_trailer(room: &mut [u8], at: usize, key: usize, exponent: u8, r: u8, p: u8)
-    requires { at + trailer_length first ≤ length room.old }
-    ensures { room.new ≡ sets room.old at (trailer_bytes first (trailer_saying first [] at key exponent r p)) }
-{
-    put_distance(room, at, at);
-    put_distance(room, at + 2, key);
-    let numbers = [EDITION as u8, exponent, r, p];
-    lent::copy(room, at + 4, &numbers);
-    lent::copy(room, at + 8, &MARK);
+impl Meaning {
+    // The trailer of a card that means this.
+    #[tactic(auto, using(crate::proofs::Costing::small), unfolding(crate::specs::Layout::trailer_bytes, lent::specs::Word::le))]
+    fn trailer(self) -> [u8; TRAILER]
+        requires { (meant_of self.salt self.key self.exponent.0 self.r self.p).refusal ≡ 0 }
+        ensures { result ≡ trailer_bytes first (trailer_saying first [] (self.salt + self.key) self.key self.exponent.0 self.r self.p) }
+    {
+        let [s0, s1] = ((self.salt + self.key) as u16).to_le_bytes();
+        let [k0, k1] = (self.key as u16).to_le_bytes();
+        let e = self.exponent.number() as u8;
+        let r = self.r as u8;
+        let p = self.p as u8;
+        let [m0, m1, m2, m3] = MARK;
+        [s0, s1, k0, k1, EDITION, e, r, p, m0, m1, m2, m3]
+    }
 }
 
 // Writes the card over the front of the room.
-fn put_card(salt: &[u8], key: &[u8], exponent: u8, r: u8, p: u8, room: &mut [u8])
-    requires { length salt.now + length key.now + trailer_length first ≤ length room.old }
-    ensures { room.new ≡ sets room.old 0 (card_bytes first [] salt.now key.now exponent r p) }
+#[tactic(auto, using(crate::proofs::Pieces::three_laid))]
+fn put_card(salt: &[u8], key: &[u8], trailer: &[u8], room: &mut [u8])
+    requires { length salt.now + length key.now + length trailer.now ≤ length room.old }
+    ensures { room.new ≡ sets room.old 0 (salt.now ++ key.now ++ trailer.now) }
 {
-    let at = salt.len() + key.len();
     lent::copy(room, 0, salt);
     lent::copy(room, salt.len(), key);
-    put_trailer(room, at, key.len(), exponent, r, p);
+    lent::copy(room, salt.len() + key.len(), trailer);
 }
 
 // Writes the card over the front of the room and says how long it is, or changes nothing.
+#[tactic(auto, using(crate::proofs::Costing::small, crate::proofs::Meanings::write_refused, crate::proofs::Meanings::write_short, crate::proofs::Meanings::write_laid))]
 pub fn write(
     salt: &[u8],
     key: &[u8],
@@ -260,32 +220,21 @@ pub fn write(
     r: u64,
     p: u64,
     room: &mut [u8],
-) -> Written
+) -> Result<usize, Reason>
     ensures { paper_written result room.new ≡ write_of salt.now key.now exponent.0 r p room.old }
 {
-    match meant(salt.len(), key.len(), exponent, r, p) {
-        Card::Refused(why) => Written::Refused(why),
-        Card::Good(_) => {
-            let n = salt.len() + key.len() + TRAILER;
-            if room.len() < n {
-                return Written::Refused(Reason::Room);
-            }
-            put_card(salt, key, exponent.number() as u8, r as u8, p as u8, room);
-            Written::Length(n)
-        }
+    let meaning = Meaning {
+        exponent,
+        r,
+        p,
+        salt: salt.len(),
+        key: key.len(),
+    };
+    meaning.check()?;
+    let n = salt.len() + key.len() + TRAILER;
+    if room.len() < n {
+        return Err(Reason::Room);
     }
-}
-
-// The paper's number of a reason.
-pub fn reason_number(why: Reason) -> u64
-    ensures { result ≡ reason_no why }
-{
-    match why {
-        Reason::Short => 21,
-        Reason::Unmarked => 22,
-        Reason::OtherEdition => 23,
-        Reason::Lengths => 24,
-        Reason::Costs => 25,
-        Reason::Room => 26,
-    }
+    put_card(salt, key, &meaning.trailer(), room);
+    Ok(n)
 }

@@ -1,9 +1,0 @@
--- `card::between` meets its contract: a test for each way out.
-use borrow.Author.Tests.{lt-leb, le-leb}
-use Rattle.card.proofs.between.Goals as goal
-
-pub returns-then-x-low : goal.returns-then-x-low
-returns-then-x-low c = rw (lt-leb _ _ c.if-x-low.true)
-
-pub returns : goal.returns
-returns c = rw (le-leb _ _ c.if-x-low.false)
