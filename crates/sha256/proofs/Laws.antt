@@ -1,43 +1,46 @@
 -- Laws of FIPS 180-4's definitions: how the schedule grows, and how a hash splits after whole blocks.
 -- Assumes nothing.
-use mathlib.Core.Path.{◌≡◌, refl, sym, ap, ◌∙◌}
-use mathlib.Core.List.{List, [], ◌∷◌, ◌++◌, append_assoc, append-nil}
-use Prim.Native.Nat.{ℕ, zero, suc, ◌+◌, ◌-◌, ◌*◌, ◌/◌, ◌%◌, ◌≤◌, ◌<◌}
-use native.Mathlib.Numerals.{add-one}
-use native.Mathlib.Nat.{add-zero, add-suc}
+use Rattle.std.proofs.Common.{◌≡◌, ℕ, zero, suc, ◌+◌, ◌-◌, ◌*◌, ◌/◌, ◌%◌, ◌≤◌, ◌<◌, List, [], ◌∷◌, ◌++◌, length, get_or, set, take, drop, refl, sym, ap, ◌∙◌, append_assoc, append-nil, add-one, add-zero, add-suc, zero-add, one-add, arith, length-append, length-drop, length-take-le, take-append-drop, take-take, take-suc, take_all, get_or-take, get_or-set_same}
 use native.Mathlib.Decide.{dec_le}
-use native.Mathlib.Omega.{arith}
+use Rattle.std.specs.Int.{w64, to_be_bytes}
+use Rattle.std.specs.List.{fold}
+use Rattle.std.specs.Simd.{first_chunks}
 use borrow.Author.Tests.{lt-ltb, le-ltb}
-use lib.ListN.{length, get_or, set, take, length-append, length-replicate}
-use lib.Seq.{take-suc, take-suc-set, take_all, take-append-le, get_or-take, get_or-set_same, sets}
-use Rattle.lent.specs.Bytes.{Bytes, part, zeros}
-use Rattle.lent.specs.Word.{be}
-use Rattle.lent.proofs.Parts.{part-front, part_back, part-sets_same, sets-front, sets_follow}
-use Rattle.lent.proofs.Tabs.{length-tab}
+use lib.ListN.{length-replicate}
+use lib.Seq.{take-suc-set, take-append-le, sets}
+use Rattle.lent.specs.Bytes.{Bytes, part, zeros, tab, joined}
+use Rattle.lent.specs.Word.{be, of_be}
+use Rattle.lent.proofs.Parts.{part-front, part_back, part-sets_same, sets-front, sets_follow, sets_over_copies, sets_all}
+use Rattle.lent.proofs.Tabs.{length-tab, tab_ext}
+use Rattle.lent.proofs.Arrays.{get_or-tab}
 use Rattle.lent.proofs.Bounds.{below_append, below_be}
-use Rattle.lent.proofs.Words.{length-be, be-split}
+use Rattle.lent.proofs.Words.{length-be}
 use Rattle.sha256.specs.Sha256.{M, Wt, H₀, padding, schedule, compress, blocks, absorb, bytes, closed, sha256}
 
--- ---- the schedule, filled in place: its first sixteen words are the block's, each later one follows from those before
+-- ---- the schedule: its first sixteen words are the block's, each later one follows from those before and is stored behind them
 
-module _ (b w : List ℕ) (t : ℕ) (fits : t < length w) (front : take t w ≡ schedule b t) where
-  pub schedule_load : t < 16 → take (t + 1) (set w t (M b t)) ≡ schedule b (t + 1)
-  unfolding schedule
-  schedule_load h = rw (add-one, take-suc-set w t (M b t) fits, front, lt-ltb t 16 h)
+schedule-words : (b : List ℕ) (n : ℕ) → n ≤ 16 → schedule b n ≡ tab n (M b)
+unfolding schedule tab
+schedule-words b zero h = refl
+schedule-words b (suc n) h = rw (schedule-words b n (omega arith), lt-ltb n 16 (omega arith))
 
-  pub schedule-next : 16 ≤ t → take (t + 1) (set w t (Wt w t)) ≡ schedule b (t + 1)
-  unfolding schedule
-  schedule-next h =
-      rw (
-        add-one,
-        take-suc-set w t (Wt w t) fits,
-        ← front,
-        le-ltb t 16 h,
-        get_or-take t w (t - 2) 0 (omega arith),
-        get_or-take t w (t - 7) 0 (omega arith),
-        get_or-take t w (t - 15) 0 (omega arith),
-        get_or-take t w (t - 16) 0 (omega arith),
-      )
+-- as they are loaded from place 0 on
+pub schedule_loaded : (b : List ℕ) → tab 16 (λ t. of_be (part (0 + 4 * t) 4 b)) ≡ schedule b 16
+schedule_loaded b = tab_ext 16 _ (M b) (λ t h. ap (λ (at : ℕ). of_be (part at 4 b)) (zero-add (4 * t))) ∙ sym (schedule-words b 16 (omega arith))
+
+pub schedule-next : (b w : List ℕ) (t : ℕ) → t < length w → take t w ≡ schedule b t → 16 ≤ t → take (t + 1) (set w t (Wt w t)) ≡ schedule b (t + 1)
+unfolding schedule
+schedule-next b w t fits front h =
+    rw (
+      add-one,
+      take-suc-set w t (Wt w t) fits,
+      ← front,
+      le-ltb t 16 h,
+      get_or-take t w (t - 2) 0 (omega arith),
+      get_or-take t w (t - 7) 0 (omega arith),
+      get_or-take t w (t - 15) 0 (omega arith),
+      get_or-take t w (t - 16) 0 (omega arith),
+    )
 
 -- for readers: each word of the whole schedule is what section 6.2.2 says
 
@@ -64,18 +67,22 @@ module _ (b : List ℕ) (n t : ℕ) (h : t < n) where
   long : length W ≡ n
   long = length-schedule b n
 
-  word : (v : ℕ) → take (t + 1) (set W t v) ≡ schedule b (t + 1) → get_or W t 0 ≡ v
-  word v e =
-      sym (get_or-take (t + 1) W t 0 (omega arith))
-      ∙ ap (λ (l : List ℕ). get_or l t 0) (schedule-front b n (t + 1) (omega arith) ∙ sym e)
-      ∙ get_or-take (t + 1) (set W t v) t 0 (omega arith)
-      ∙ get_or-set_same W t v 0 (omega (arith, long))
+  -- word t stands where the schedule as far as W_t ends
+  word : get_or W t 0 ≡ get_or (schedule b (t + 1)) t 0
+  word = sym (get_or-take (t + 1) W t 0 (omega arith)) ∙ ap (λ (l : List ℕ). get_or l t 0) (schedule-front b n (t + 1) (omega arith))
 
   pub schedule-first : t < 16 → get_or W t 0 ≡ M b t
-  schedule-first k = word (M b t) (schedule_load b W t (omega (arith, long)) (schedule-front b n t (omega arith)) k)
+  schedule-first k =
+      word
+      ∙ ap (λ (l : List ℕ). get_or l t 0) (schedule-words b (t + 1) (omega arith))
+      ∙ get_or-tab (t + 1) (M b) t 0 (omega arith)
 
   pub schedule_recurs : 16 ≤ t → get_or W t 0 ≡ Wt W t
-  schedule_recurs k = word (Wt W t) (schedule-next b W t (omega (arith, long)) (schedule-front b n t (omega arith)) k)
+  schedule_recurs k =
+      word
+      ∙ ap (λ (l : List ℕ). get_or l t 0) (sym (schedule-next b W t (omega (arith, long)) (schedule-front b n t (omega arith)) k))
+      ∙ get_or-take (t + 1) (set W t (Wt W t)) t 0 (omega arith)
+      ∙ get_or-set_same W t (Wt W t) 0 (omega (arith, long))
 
 -- ---- blocks: those of the first of two strings, and those of both where the first has whole blocks
 
@@ -98,6 +105,47 @@ absorb-append k H xs ys h =
     let first : length xs / 64 ≡ k = omega arith in
     let both : (length xs + length ys) / 64 ≡ k + length ys / 64 = omega arith in
     rw (length-append, both, first, blocks_add k (length ys / 64) xs ys H h)
+
+-- less than a block has nothing to absorb
+absorb_short : (H s : List ℕ) → length s < 64 → absorb H s ≡ H
+unfolding absorb blocks
+absorb_short H s h = let none : length s / 64 ≡ 0 = omega arith in rw none
+
+-- what whole blocks leave of s is absorbed with what follows it
+pub absorb_rest : (H s ys : List ℕ) → absorb (absorb H s) (drop (length s / 64 * 64) s ++ ys) ≡ absorb H (s ++ ys)
+absorb_rest H s ys =
+    let k = length s / 64 in
+    let xs = take (k * 64) s in
+    let rest = drop (k * 64) s in
+    let even : length xs ≡ k * 64 = length-take-le (k * 64) s (omega arith) in
+    let whole : length xs ≡ 64 * k = omega arith in
+    let short : length rest < 64 = rw length-drop (omega arith) in
+    let all : xs ++ rest ≡ s = take-append-drop (k * 64) s in
+    ap (λ (l : List ℕ). absorb (absorb H l) (rest ++ ys)) (sym all)
+    ∙ ap (λ (y : List ℕ). absorb y (rest ++ ys)) (absorb-append k H xs rest whole ∙ absorb_short (absorb H xs) rest short)
+    ∙ sym (absorb-append k H xs (rest ++ ys) whole)
+    ∙ ap (absorb H) (sym (append_assoc xs rest ys) ∙ ap (λ (l : List ℕ). l ++ ys) all)
+
+-- so the blocks are absorbed one after the other, from the first
+blocks-front_first : (n : ℕ) (s H : List ℕ) → 64 * suc n ≤ length s → blocks (1 + n) s H ≡ blocks n (drop 64 s) (compress H (take 64 s))
+unfolding blocks
+blocks-front_first n s H h =
+    let long : length (take 64 s) ≡ 64 * 1 = length-take-le 64 s (omega arith) in
+    let first : part 0 64 (take 64 s) ≡ take 64 s = take-take 64 64 s (omega arith) in
+    ap (λ (l : List ℕ). blocks (1 + n) l H) (sym (take-append-drop 64 s))
+    ∙ blocks_add 1 n (take 64 s) (drop 64 s) H long
+    ∙ ap (λ (l : List ℕ). blocks n (drop 64 s) (compress H l)) first
+
+fold-blocks : (n : ℕ) (s H : List ℕ) → 64 * n ≤ length s → fold compress H (first_chunks 64 n s) ≡ blocks n s H
+unfolding blocks
+fold-blocks zero s H h = refl
+fold-blocks (suc n) s H h =
+    let room : 64 * n ≤ length (drop 64 s) = rw length-drop (omega arith) in
+    fold-blocks n (drop 64 s) (compress H (take 64 s)) room ∙ sym (blocks-front_first n s H h) ∙ rw one-add refl
+
+pub absorb_folds : (H s : List ℕ) → fold compress H (first_chunks 64 (length s / 64) s) ≡ absorb H s
+unfolding absorb
+absorb_folds H s = fold-blocks (length s / 64) s H (omega arith)
 
 -- a hash closed from the value after a string of whole blocks
 pub closed-append : (k : ℕ) (H xs ys : List ℕ) (n : ℕ) → length xs ≡ 64 * k → closed H (xs ++ ys) n ≡ closed (absorb H xs) ys n
@@ -151,16 +199,35 @@ pub bytes-sha256 : (m : List ℕ) → Bytes (sha256 m)
 unfolding sha256 closed
 bytes-sha256 m = bytes-bytes (absorb H₀ (m ++ padding (length m)))
 
--- one word more
-pub bytes-more : (h : List ℕ) (j : ℕ) → j < length h → bytes (take (j + 1) h) ≡ bytes (take j h) ++ be 4 (get_or h j 0)
-unfolding bytes
-bytes-more h j k = rw (add-one, take-suc h j 0 k, bytes_join, append-nil)
+-- as they are written, word by word
+bytes-take : (h : List ℕ) (n : ℕ) → n ≤ length h → bytes (take n h) ≡ joined n (λ i. be 4 (get_or h i 0))
+unfolding bytes joined
+bytes-take h zero k = refl
+bytes-take h (suc n) k = rw (take-suc h n 0 (omega arith), bytes_join, append-nil, bytes-take h n (omega arith))
 
--- ---- padding, as the code writes it into a room of zeros
+pub bytes_stored : (room h : List ℕ) → length room ≡ 32 → length h ≡ 8 → sets room 0 (joined 8 (λ i. be 4 (get_or h i 0))) ≡ bytes h
+bytes_stored room h n k =
+    let all : bytes h ≡ joined 8 (λ i. be 4 (get_or h i 0)) = ap bytes (sym (take_all 8 h (omega arith))) ∙ bytes-take h 8 (omega arith) in
+    let long : length (bytes h) ≡ length room = rw length-bytes (omega arith) in
+    rw (← all) (sets_all room (bytes h) long)
 
-module _ (room : ℕ) (m : List ℕ) (n total : ℕ) (wide : 128 ≤ room) (long : length m ≡ n) (short : n < 64) (same : total % 64 ≡ n % 64) where
+-- the library's eight bytes of a number are the standard's
+pub be_eight : (x : ℕ) → be 8 x ≡ to_be_bytes w64 x
+unfolding be
+be_eight x =
+    let two : x / 256 / 256 ≡ x / 65536 = omega arith in
+    let three : x / 65536 / 256 ≡ x / 16777216 = omega arith in
+    let four : x / 16777216 / 256 ≡ x / 4294967296 = omega arith in
+    let five : x / 4294967296 / 256 ≡ x / 1099511627776 = omega arith in
+    let six : x / 1099511627776 / 256 ≡ x / 281474976710656 = omega arith in
+    let seven : x / 281474976710656 / 256 ≡ x / 72057594037927936 = omega arith in
+    rw (two, three, four, five, six, seven) refl
+
+-- ---- padding, as the code writes it behind the last bytes m of a message, over zeros
+
+module _ (room : ℕ) (m : List ℕ) (total : ℕ) (wide : 128 ≤ room) (short : length m < 64) (same : total % 64 ≡ length m) where
   abbrev end : ℕ
-  end = 64 * ((n + 72) / 64)
+  end = 64 * ((length m + 72) / 64)
 
   abbrev z : ℕ
   z = (119 - total % 64) % 64
@@ -169,26 +236,21 @@ module _ (room : ℕ) (m : List ℕ) (n total : ℕ) (wide : 128 ≤ room) (long
   front = (m ++ (128 ∷ [])) ++ zeros z
 
   length_front : length front ≡ end - 8
-  length_front = rw (length-append, length-append, length-replicate, long) (omega arith)
+  length_front = rw (length-append, length-append, length-replicate) (omega arith)
 
-  pub laid_out : take end (sets (sets (set (sets (zeros room) 0 m) n 128) (end - 8) (be 4 (8 * total / 4294967296))) (end - 4) (be 4 (8 * total % 4294967296))) ≡ m ++ padding total
+  pub laid_out : take end (sets (set (m ++ zeros (room - length m)) (length m) 128) (end - 8) (be 8 (8 * total))) ≡ m ++ padding total
   unfolding padding
   laid_out =
       let blank = zeros room in
-      let hi = be 4 (8 * total / 4294967296) in
-      let lo = be 4 (8 * total % 4294967296) in
       let bit = m ++ (128 ∷ []) in
-      let bits : length bit ≡ n + 1 = rw (length-append, long) in
-      let fills : length bit + z ≤ room = omega arith in
-      let most : length (front ++ hi) ≡ end - 4 = rw (length-append, length_front, length-be) (omega arith) in
-      let whole = (front ++ hi) ++ lo in
-      let all : length whole ≡ end = rw (length-append, most, length-be) (omega arith) in
+      let bits : length bit ≡ length m + 1 = rw length-append in
+      let whole = front ++ be 8 (8 * total) in
+      let all : length whole ≡ end = rw (length-append, length_front, length-be) (omega arith) in
       let within : 0 + length whole ≤ length blank = rw (all, length-replicate) (omega arith) in
       rw (
-        sets-front blank m (128 ∷ []) n long,
-        sets_follow room z 0 bit fills,
-        sets-front blank front hi (end - 8) length_front,
-        sets-front blank (front ++ hi) lo (end - 4) most,
-        be-split 4 4 (8 * total),
+        ← sets_over_copies room 0 m (omega arith),
+        sets-front blank m (128 ∷ []) (length m) refl,
+        sets_follow room z 0 bit (omega arith),
+        sets-front blank front (be 8 (8 * total)) (end - 8) length_front,
       )
       (ap (λ (k : ℕ). take k (sets blank 0 whole)) (sym all) ∙ part-sets_same blank 0 whole within ∙ simp append_assoc)

@@ -2,12 +2,11 @@
 // a caller keeps the value after the whole blocks that it has absorbed and closes the hash with the rest.
 #![tactic(auto)]
 
-ghost use Rattle.std.specs.Prelude.{◌≡◌, ◌++◌, ◌+◌, ◌-◌, ◌*◌, ◌/◌, ◌%◌, ◌^◌, ◌≤◌, ◌<◌, length, get_or, take, drop};
-ghost use Rattle.std.specs.Int.Bits.{bit_xor};
-ghost use Rattle.std.proofs.lemmas.List.Edits.{sets};
-ghost use Rattle.lent.specs.Bytes.{part, tab};
-ghost use Rattle.lent.specs.Word.{plus, rotr};
+ghost use Rattle.std.specs.Prelude.{◌≡◌, ◌++◌, ◌+◌, ◌-◌, ◌*◌, ◌/◌, ◌%◌, ◌^◌, ◌≤◌, ◌<◌, length};
+ghost use Rattle.lent.specs.Word.{plus};
 ghost use Rattle.sha256.specs.Sha256.{Ch, Maj, Σ₀, Σ₁, σ₀, σ₁, H₀, padding, schedule, round, rounds, compress, absorb, bytes, closed, sha256};
+
+use lent::BigEndian;
 
 // Section 4.2.2: a table, indexed by the round.
 const K: [u32; 64] = [
@@ -34,151 +33,93 @@ fn maj(x: u32, y: u32, z: u32) -> u32
     (x & y) ^ (x & z) ^ (y & z)
 }
 
-// Three rotations of x, or two and a shift: what the four functions below differ in are numbers alone.
-fn rotated(x: u32, a: u32, b: u32, c: u32) -> u32
-    requires { (0 < a) × (a < 32) × (0 < b) × (b < 32) × (0 < c) × (c < 32) }
-    ensures { result ≡ bit_xor (bit_xor (rotr a x) (rotr b x)) (rotr c x) }
-{
-    lent::ror(x, a) ^ lent::ror(x, b) ^ lent::ror(x, c)
-}
-
-fn shifted(x: u32, a: u32, b: u32, c: u32) -> u32
-    requires { (0 < a) × (a < 32) × (0 < b) × (b < 32) × (c < 32) }
-    ensures { result ≡ bit_xor (bit_xor (rotr a x) (rotr b x)) (x / 2 ^ c) }
-{
-    lent::ror(x, a) ^ lent::ror(x, b) ^ (x >> c)
-}
-
 fn big0(x: u32) -> u32
     ensures { result ≡ Σ₀ x }
 {
-    rotated(x, 2, 13, 22)
+    x.rotate_right(2) ^ x.rotate_right(13) ^ x.rotate_right(22)
 }
 
 fn big1(x: u32) -> u32
     ensures { result ≡ Σ₁ x }
 {
-    rotated(x, 6, 11, 25)
+    x.rotate_right(6) ^ x.rotate_right(11) ^ x.rotate_right(25)
 }
 
 fn small0(x: u32) -> u32
     ensures { result ≡ σ₀ x }
 {
-    shifted(x, 7, 18, 3)
+    x.rotate_right(7) ^ x.rotate_right(18) ^ (x >> 3)
 }
 
 fn small1(x: u32) -> u32
     ensures { result ≡ σ₁ x }
 {
-    shifted(x, 17, 19, 10)
+    x.rotate_right(17) ^ x.rotate_right(19) ^ (x >> 10)
 }
 
 // Section 6.2.2, step 1: a word of the schedule from those 2, 7, 15 and 16 before it.
 fn next(w2: u32, w7: u32, w15: u32, w16: u32) -> u32
     ensures { result ≡ plus (plus (plus (σ₁ w2) w7) (σ₀ w15)) w16 }
 {
-    lent::add(lent::add(lent::add(small1(w2), w7), small0(w15)), w16)
+    small1(w2)
+        .wrapping_add(w7)
+        .wrapping_add(small0(w15))
+        .wrapping_add(w16)
 }
 
-// The schedule's first sixteen words: those of the block at place at.
-fn parse(s: &[u8], at: usize) -> [u32; 64]
-    requires { at + 64 ≤ length s.now }
-    ensures { take 16 result ≡ schedule (part at 64 s.now) 16 }
+// The whole schedule: its first sixteen words are the block's. Words are passed on, never the table, which would be copied at each turn.
+fn schedule(block: &[u8; 64]) -> [u32; 64]
+    ensures { result ≡ schedule block.now 64 }
 {
     let mut w = [0u32; 64];
-    let mut t = 0;
-    while t < 16 {
-        w[t] = lent::get_be32(s, at + 4 * t);
-        t += 1;
-    }
-    w
-}
-
-// The whole schedule. The words are passed on, never the table, which would be copied at each turn.
-fn schedule(s: &[u8], at: usize) -> [u32; 64]
-    requires { at + 64 ≤ length s.now }
-    ensures { result ≡ schedule (part at 64 s.now) 64 }
-{
-    let mut w = parse(s, at);
-    let mut t = 16;
-    while t < 64 {
+    w[..16].copy_from_slice(&lent::load::<BigEndian, 16>(block, 0));
+    for t in 16..64 {
         w[t] = next(w[t - 2], w[t - 7], w[t - 15], w[t - 16]);
-        t += 1;
     }
     w
 }
 
 // Step 3: one round.
-fn round(v: [u32; 8], k: u32, w: u32) -> [u32; 8]
-    ensures { result ≡ round k w v }
+#[tactic(auto, unfolding(crate::specs::Sha256::round))]
+fn round(v: &mut [u32; 8], k: u32, w: u32)
+    ensures { v.new ≡ round k w v.old }
 {
-    let a = v[0];
-    let b = v[1];
-    let c = v[2];
-    let d = v[3];
-    let e = v[4];
-    let f = v[5];
-    let g = v[6];
-    let h = v[7];
-    let t1 = lent::add(
-        lent::add(lent::add(lent::add(h, big1(e)), ch(e, f, g)), k),
-        w,
-    );
-    let t2 = lent::add(big0(a), maj(a, b, c));
-    [lent::add(t1, t2), a, b, c, lent::add(d, t1), e, f, g]
+    let [a, b, c, d, e, f, g, h] = *v;
+    let t1 = h
+        .wrapping_add(big1(e))
+        .wrapping_add(ch(e, f, g))
+        .wrapping_add(k)
+        .wrapping_add(w);
+    let t2 = big0(a).wrapping_add(maj(a, b, c));
+    *v = [t1.wrapping_add(t2), a, b, c, d.wrapping_add(t1), e, f, g];
 }
 
 // The 64 rounds. The table is a local: read from the constant inside the loop it would be laid out anew at each turn.
-fn rounds(v: [u32; 8], w: [u32; 64]) -> [u32; 8]
-    ensures { result ≡ rounds 64 w v }
+fn rounds(v: [u32; 8], w: &[u32; 64]) -> [u32; 8]
+    ensures { result ≡ rounds 64 w.now v }
 {
     let k = K;
     let mut y = v;
-    let mut t = 0;
-    while t < 64 {
-        let z = round(y, k[t], w[t]);
-        y = z;
-        t += 1;
+    for t in 0..64 {
+        round(&mut y, k[t], w[t]);
     }
     y
 }
 
-// Step 4: the sums of the words.
-fn sums(v: [u32; 8], h: [u32; 8]) -> [u32; 8]
-    ensures { result ≡ tab 8 (λ j. plus (get_or v j 0) (get_or h j 0)) }
+// Step 4: the hash value after h and the block.
+#[tactic(auto, unfolding(crate::specs::Sha256::compress))]
+fn compress(h: [u32; 8], block: &[u8; 64]) -> [u32; 8]
+    ensures { result ≡ compress h block.now }
 {
-    let mut r = [0u32; 8];
-    let mut j = 0;
-    while j < 8 {
-        r[j] = lent::add(v[j], h[j]);
-        j += 1;
-    }
-    r
+    lent::sums(&rounds(h, &schedule(block)), &h)
 }
 
-// The hash value after h and the block at place at.
-fn compress(h: [u32; 8], s: &[u8], at: usize) -> [u32; 8]
-    requires { at + 64 ≤ length s.now }
-    ensures { result ≡ compress h (part at 64 s.now) }
+// The hash value after h and the whole blocks of s.
+pub fn absorb(h: [u32; 8], s: &[u8]) -> [u32; 8]
+    ensures { result ≡ absorb h s.now }
 {
-    let w = schedule(s, at);
-    let v = rounds(h, w);
-    sums(v, h)
-}
-
-// The hash value after h and n blocks from place at on.
-pub fn absorb(h: [u32; 8], s: &[u8], at: usize, n: usize) -> [u32; 8]
-    requires { at + 64 * n ≤ length s.now }
-    ensures { result ≡ absorb h (part at (64 * n) s.now) }
-{
-    let mut y = h;
-    let mut i = 0;
-    while i < n {
-        let z = compress(y, s, at + 64 * i);
-        y = z;
-        i += 1;
-    }
-    y
+    let (blocks, _) = s.as_chunks::<64>();
+    blocks.iter().fold(h, compress)
 }
 
 // The initial hash value (section 5.3.3).
@@ -191,51 +132,41 @@ pub fn initial() -> [u32; 8]
     ]
 }
 
-// Section 5.1.1: the bytes from place at on, the last ones of a message of total bytes, padded at the front of a room.
-// With n of them that is one block or two, (n + 72) / 64.
-fn last(s: &[u8], at: usize, total: usize) -> [u8; 128]
-    requires { (at ≤ length s.now) × (length s.now < at + 64) × (total % 64 ≡ (length s.now - at) % 64) × (total < 2 ^ 61) }
-    ensures { take (64 * ((length s.now - at + 72) / 64)) result ≡ drop at s.now ++ padding total }
+// Section 5.1.1: the hash value after the last bytes of a message of total bytes and its padding, which together are one block or two.
+fn last(h: [u32; 8], rest: &[u8], total: usize) -> [u32; 8]
+    requires { (length rest.now < 64) × (total % 64 ≡ length rest.now) × (total < 2 ^ 61) }
+    ensures { result ≡ absorb h (rest.now ++ padding total) }
 {
-    let n = s.len() - at;
+    let n = rest.len();
     let end = 64 * ((n + 72) / 64);
-    let mut b = [0u8; 128];
-    lent::copy(&mut b, 0, &s[at..]);
+    let mut b = lent::padded::<128>(rest);
     b[n] = 128;
-    lent::put_be32(&mut b, end - 8, (8 * total / 4294967296) as u32);
-    lent::put_be32(&mut b, end - 4, (8 * total % 4294967296) as u32);
-    b
+    lent::copy(&mut b, end - 8, &(8 * total as u64).to_be_bytes());
+    absorb(h, &b[..end])
 }
 
-// Writes the words of a hash value at place at.
-fn put(h: [u32; 8], out: &mut [u8], at: usize)
-    requires { at + 32 ≤ length out.old }
-    ensures { out.new ≡ sets out.old at (bytes h) }
+// The words of a hash value, one after the other.
+fn bytes(h: &[u32; 8]) -> [u8; 32]
+    ensures { result ≡ bytes h.now }
 {
-    let mut j = 0;
-    while j < 8 {
-        lent::put_be32(out, at + 4 * j, h[j]);
-        j += 1;
-    }
+    let mut d = [0u8; 32];
+    lent::store::<BigEndian, 8>(&mut d, 0, h);
+    d
 }
 
 // Closes a hash: h is its value after `before` bytes, whole blocks, and s all the bytes after those.
-pub fn close(h: [u32; 8], before: usize, s: &[u8], out: &mut [u8], at: usize)
-    requires { (before % 64 ≡ 0) × (before + length s.now < 2 ^ 61) × (at + 32 ≤ length out.old) }
-    ensures { out.new ≡ sets out.old at (closed h s.now (before + length s.now)) }
+pub fn close(h: [u32; 8], before: usize, s: &[u8]) -> [u8; 32]
+    requires { (before % 64 ≡ 0) × (before + length s.now < 2 ^ 61) }
+    ensures { result ≡ closed h s.now (before + length s.now) }
 {
-    let n = s.len();
-    let full = n / 64;
-    let y = absorb(h, s, 0, full);
-    let b = last(s, 64 * full, before + n);
-    let z = absorb(y, &b, 0, (n % 64 + 72) / 64);
-    put(z, out, at);
+    let (_, rest) = s.as_chunks::<64>();
+    bytes(&last(absorb(h, s), rest, before + s.len()))
 }
 
-// Writes the hash of s at place at.
-pub fn hash(s: &[u8], out: &mut [u8], at: usize)
-    requires { (length s.now < 2 ^ 61) × (at + 32 ≤ length out.old) }
-    ensures { out.new ≡ sets out.old at (sha256 s.now) }
+// The hash of s.
+pub fn hash(s: &[u8]) -> [u8; 32]
+    requires { length s.now < 2 ^ 61 }
+    ensures { result ≡ sha256 s.now }
 {
-    close(initial(), 0, s, out, at);
+    close(initial(), 0, s)
 }

@@ -1,19 +1,13 @@
--- `sha256::last` meets its contract: the four writes lay the padded message out from the front.
-use Prim.Native.Nat.{◌-◌}
-use mathlib.Core.Path.{◌≡◌}
-use native.Mathlib.Omega.{arith}
-use lib.ListN.{length, drop, length-drop, length-set}
-use Rattle.lent.proofs.Parts.{part_rest}
-use Rattle.sha256.proofs.Laws.{laid_out}
+-- `sha256::last` meets its contract: the writes lay the padded message out from the front.
+use Rattle.std.proofs.Common.{◌≡◌, ◌*◌, sym, ◌∙◌, ap, arith}
+use Rattle.lent.specs.Word.{be}
+use Rattle.sha256.specs.Sha256.{absorb}
+use Rattle.sha256.proofs.Laws.{be_eight, laid_out}
 use Rattle.sha256.proofs.last.Goals as goal
-
-pub put_be32-requires : goal.put_be32-requires
-put_be32-requires c = rw length-set (omega arith)
 
 pub returns : goal.returns
 returns c =
     let a = c.args in
-    let m = drop a.at a.s.now in
-    let n = length a.s.now - a.at in
-    let long : length m ≡ n = length-drop a.at a.s.now in
-    rw (c.put_be32-2.ensures, c.put_be32.ensures, c.copy.ensures, part_rest a.at a.s.now) (laid_out 128 m n a.total (omega arith) long (omega arith) c.requires.2)
+    let m = a.rest.now in
+    let bits : c.to_be_bytes.result ≡ be 8 (8 * a.total) = c.to_be_bytes.ensures ∙ sym (be_eight (8 * a.total)) in
+    rw (c.absorb.ensures, c.copy.ensures, bits, c.padded-b.ensures) (ap (absorb a.h) (laid_out 128 m a.total (omega arith) c.requires.0 c.requires.1))

@@ -1,21 +1,12 @@
 -- `sha256::rounds` meets its contract: after t turns the working variables are those after t rounds.
-use mathlib.Core.Path.{◌≡◌, refl}
-use native.Mathlib.Numerals.{add-one}
-use native.Mathlib.Omega.{arith}
+use Rattle.std.proofs.Common.{refl, add-one}
 use Rattle.sha256.specs.Sha256.{K, rounds}
 use Rattle.sha256.proofs.rounds.Goals as goal
 
 pub loop-t-init : goal.loop-t-init
 unfolding rounds K
-loop-t-init c = (omega arith, refl, refl)
-
-pub round-z-requires : goal.round-z-requires
-round-z-requires c = tt
+loop-t-init c = (refl, refl)
 
 pub loop-t-preserved : goal.loop-t-preserved
 unfolding rounds
-loop-t-preserved c =
-    (omega arith, c.loop-t.invariant.1, rw (add-one, ← c.loop-t.invariant.1, ← c.loop-t.invariant.2) c.round-z.ensures)
-
-pub returns : goal.returns
-returns c = let past : c.loop-t.t ≡ 64 = omega arith in rw past at c.loop-t.invariant.2
+loop-t-preserved c = (c.loop-t.invariant.0, rw (add-one, ← c.loop-t.invariant.0, ← c.loop-t.invariant.1) c.round.ensures)
