@@ -1,22 +1,22 @@
 -- Laws of HMAC and PBKDF2: what is made from saved hash values is what the RFCs say; a shorter key is the start of a longer one;
 -- a passphrase of at most 63 bytes and the same with a zero byte added give one key.
 -- Assumes nothing.
-use mathlib.Core.Path.{◌≡◌, refl, sym, ap, ◌∙◌}
-use mathlib.Core.List.{List, [], ◌∷◌, ◌++◌, append_assoc}
-use Prim.Native.Nat.{ℕ, zero, suc, ◌+◌, ◌-◌, ◌*◌, ◌/◌, ◌≤◌, ◌<◌}
-use native.Mathlib.Nat.{add-zero, add-suc, add_assoc}
+use Rattle.std.proofs.Common.{◌≡◌, ℕ, zero, suc, ◌+◌, ◌-◌, ◌*◌, ◌/◌, ◌≤◌, ◌<◌, List, [], ◌∷◌, ◌++◌, length, take, drop, replicate, map, bit_xor, refl, sym, ap, ap₂, subst, ◌∙◌, append_assoc, add-zero, add-suc, add-one, arith, length-append, length-take-le, take-append-drop, take_all, take-take, take_at, drop-cons, drop_of_length-le}
+use denote.Param.Members.{Mut, Called}
+use Rattle.std.specs.Array.{MapsFrom, IsMapOf}
+use native.Mathlib.Nat.{add_assoc}
 use native.Mathlib.Decide.{dec_le}
-use native.Mathlib.Omega.{arith}
 use borrow.Author.Tests.{le-leb, lt-leb}
-use lib.ListN.{length, take, replicate, length-append, length-replicate}
-use lib.Seq.{sets, take_all, take-take, take-append-le, take-append-add, length-take-le}
-use Rattle.lent.specs.Bytes.{Bytes, zeros, joined}
+use lib.ListN.{length-replicate}
+use lib.Seq.{sets, take-append-le, take-append-add}
+use Rattle.lent.specs.Bytes.{Bytes, zeros, joined, xors}
 use Rattle.lent.specs.Word.{be}
-use Rattle.lent.proofs.Parts.{sets-front, sets_all}
+use Rattle.lent.proofs.Parts.{sets-front, sets_all, take-sets}
 use Rattle.lent.proofs.Tabs.{length-xors}
+use Rattle.lent.proofs.Words.{length-be}
 use Rattle.lent.proofs.Bounds.{below_take, below_joined}
 use Rattle.sha256.specs.Sha256.{H₀, absorb, closed, sha256}
-use Rattle.sha256.proofs.Laws.{sha_split, closed-append, length-absorb, length-closed, length-sha256, bytes-sha256}
+use Rattle.sha256.proofs.Laws.{absorb_whole, sha_split, closed-append, length-absorb, length-closed, length-sha256, bytes-sha256}
 use Rattle.pbkdf2.specs.Hmac.{ipad, opad, shortened, block, masked, hmac}
 use Rattle.pbkdf2.specs.Pbkdf2.{F, Ts, derived, pbkdf2}
 use Rattle.pbkdf2.specs.Saved.{twice, piece}
@@ -41,6 +41,28 @@ length-block K =
 length-masked : (K : List ℕ) (pad : ℕ) → length (masked (block K) pad) ≡ 64
 unfolding masked
 length-masked K pad = length-xors (block K) (replicate 64 pad) (length-block K ∙ sym (length-replicate 64 pad)) ∙ length-block K
+
+-- byte by byte, as the library's map of an array with a closure that each call leaves as it was
+
+module _ {F : Type 0} (g : Mut F (ℕ × Unit {0}) ℕ) (h : ℕ → ℕ) (f : F) (step : (x y : ℕ) (q : F) → Called g f (x, tt) y q → (y ≡ h x) × (q ≡ f)) where
+  mapped_from : (n : ℕ) (xs ys : List ℕ) (p : F) (i : ℕ) → p ≡ f → length xs ≡ i + n → length ys ≡ i + n → MapsFrom g p xs ys i n → drop i ys ≡ map h (drop i xs)
+  mapped_from zero xs ys p i e long as_long t = rw (drop_of_length-le xs {i = i} (omega arith), drop_of_length-le ys {i = i} (omega arith)) refl
+  mapped_from (suc n) xs ys p i e long as_long t =
+      let one = step t.1 t.2 t.0 (subst (λ (k : F). Called g k (t.1, tt) t.2 t.0) e t.5) in
+      drop-cons ys i 0 (omega arith)
+      ∙ ap₂ ◌∷◌ (t.4.1 0 ∙ one.0 ∙ ap h (sym (t.3.1 0))) (ap (λ (k : ℕ). drop k ys) (sym (add-one i)) ∙ mapped_from n xs ys t.0 (i + 1) one.1 (omega arith) (omega arith) t.6 ∙ ap (λ (k : ℕ). map h (drop k xs)) (add-one i))
+      ∙ ap (map h) (sym (drop-cons xs i 0 (omega arith)))
+
+  pub mapped : (n : ℕ) (xs ys : List ℕ) → length xs ≡ n → IsMapOf g f xs ys n → ys ≡ map h xs
+  mapped n xs ys e made = mapped_from n xs ys f 0 refl (omega arith) (omega (arith, made.long)) made.each
+
+pub masked_map : (K : List ℕ) (pad : ℕ) → length K ≡ 64 → masked K pad ≡ map (λ b. bit_xor b pad) K
+unfolding masked xors
+masked_map K pad h = ap (λ (n : ℕ). xors K (replicate n pad)) (sym h) ∙ go K
+  where
+    go : (l : List ℕ) → xors l (replicate (length l) pad) ≡ map (λ b. bit_xor b pad) l
+    go [] = refl
+    go (x ∷ l) = rw (go l)
 
 -- zeros follow a key of less than a block, so one zero byte more in the key changes nothing
 block_zero : (K : List ℕ) → length K < 64 → block (K ++ (0 ∷ [])) ≡ block K
@@ -89,6 +111,12 @@ unfolding piece
 piece_is k P xs ys h i =
     twice-append k (keyed P opad) (keyed P ipad) 64 xs (ys ++ be 4 i) h ∙ rw (← append_assoc, ← hmac-twice)
 
+-- a piece's number behind what is left of the salt, as the code writes it into a room
+pub numbered : (room : ℕ) (s : List ℕ) (i : ℕ) → length s + 4 ≤ room → take (length s + 4) (sets (s ++ zeros (room - length s)) (length s) (be 4 i)) ≡ s ++ be 4 i
+numbered room s i h =
+    let four = length-be 4 i in
+    rw four at (take-sets (s ++ zeros (room - length s)) (length s) (be 4 i) (rw (length-append, length-replicate, four) (omega arith))) ∙ rw (take_at s (zeros (room - length s)) (length s) refl) refl
+
 -- ---- pieces joined
 
 pub Ts_ext : (f g : ℕ → List ℕ) → ((i : ℕ) → f i ≡ g i) → (l : ℕ) → Ts f l ≡ Ts g l
@@ -99,6 +127,16 @@ Ts_ext f g h (suc l) = rw (Ts_ext f g h l, h (suc l))
 pub derived_ext : (f g : ℕ → List ℕ) → ((i : ℕ) → f i ≡ g i) → (n : ℕ) → derived f n ≡ derived g n
 unfolding derived
 derived_ext f g h n = rw (Ts_ext f g h ((n + 31) / 32))
+
+-- so what the pieces make that start from a salt's whole blocks is the RFC's key
+pub pbkdf2-pieces : (P S : List ℕ) (n : ℕ) → derived (piece (keyed P opad) (absorb (keyed P ipad) S) (64 + length S / 64 * 64) (drop (length S / 64 * 64) S)) n ≡ pbkdf2 P S n
+unfolding pbkdf2
+pbkdf2-pieces P S n =
+    let k = length S / 64 in
+    let place : k * 64 ≡ 64 * k = omega arith in
+    let whole : length (take (64 * k) S) ≡ 64 * k = length-take-le (64 * k) S (omega arith) in
+    rw (place, absorb_whole (keyed P ipad) S k refl)
+    (derived_ext _ (F P S) (λ i. piece_is k P (take (64 * k) S) (drop (64 * k) S) whole i ∙ ap (λ (l : List ℕ). F P l i) (take-append-drop (64 * k) S)) n)
 
 module _ (f : ℕ → List ℕ) (long : (i : ℕ) → length (f i) ≡ 32) where
   pub length-Ts : (l : ℕ) → length (Ts f l) ≡ 32 * l

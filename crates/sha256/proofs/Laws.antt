@@ -111,20 +111,25 @@ absorb_short : (H s : List ℕ) → length s < 64 → absorb H s ≡ H
 unfolding absorb blocks
 absorb_short H s h = let none : length s / 64 ≡ 0 = omega arith in rw none
 
--- what whole blocks leave of s is absorbed with what follows it
+-- so what follows the whole blocks of s is no part of it
+pub absorb_whole : (H s : List ℕ) (k : ℕ) → k ≡ length s / 64 → absorb H s ≡ absorb H (take (64 * k) s)
+absorb_whole H s k h =
+    let long : length (take (64 * k) s) ≡ 64 * k = length-take-le (64 * k) s (omega arith) in
+    let short : length (drop (64 * k) s) < 64 = rw length-drop (omega arith) in
+    ap (absorb H) (sym (take-append-drop (64 * k) s))
+    ∙ absorb-append k H (take (64 * k) s) (drop (64 * k) s) long
+    ∙ absorb_short (absorb H (take (64 * k) s)) (drop (64 * k) s) short
+
+-- and is absorbed with what comes after
 pub absorb_rest : (H s ys : List ℕ) → absorb (absorb H s) (drop (length s / 64 * 64) s ++ ys) ≡ absorb H (s ++ ys)
 absorb_rest H s ys =
     let k = length s / 64 in
-    let xs = take (k * 64) s in
-    let rest = drop (k * 64) s in
-    let even : length xs ≡ k * 64 = length-take-le (k * 64) s (omega arith) in
-    let whole : length xs ≡ 64 * k = omega arith in
-    let short : length rest < 64 = rw length-drop (omega arith) in
-    let all : xs ++ rest ≡ s = take-append-drop (k * 64) s in
-    ap (λ (l : List ℕ). absorb (absorb H l) (rest ++ ys)) (sym all)
-    ∙ ap (λ (y : List ℕ). absorb y (rest ++ ys)) (absorb-append k H xs rest whole ∙ absorb_short (absorb H xs) rest short)
-    ∙ sym (absorb-append k H xs (rest ++ ys) whole)
-    ∙ ap (absorb H) (sym (append_assoc xs rest ys) ∙ ap (λ (l : List ℕ). l ++ ys) all)
+    let place : k * 64 ≡ 64 * k = omega arith in
+    let xs = take (64 * k) s in
+    let rest = drop (64 * k) s in
+    rw (place, absorb_whole H s k refl)
+    (sym (absorb-append k H xs (rest ++ ys) (length-take-le (64 * k) s (omega arith)))
+    ∙ ap (absorb H) (sym (append_assoc xs rest ys) ∙ ap (λ (l : List ℕ). l ++ ys) (take-append-drop (64 * k) s)))
 
 -- so the blocks are absorbed one after the other, from the first
 blocks-front_first : (n : ℕ) (s H : List ℕ) → 64 * suc n ≤ length s → blocks (1 + n) s H ≡ blocks n (drop 64 s) (compress H (take 64 s))

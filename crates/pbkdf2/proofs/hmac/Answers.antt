@@ -3,6 +3,4 @@ use Rattle.pbkdf2.proofs.Laws.{hmac-twice}
 use Rattle.pbkdf2.proofs.hmac.Goals as goal
 
 pub returns : goal.returns
-returns c =
-    let a = c.args in
-    rw (c.twice.ensures, c.keyed-2.ensures, c.keyed.ensures, c.block-k.ensures, hmac-twice a.key.now a.text.now)
+returns c = rw (c.twice.ensures, c.new.ensures.outer, c.new.ensures.inner, c.new.ensures.before, hmac-twice c.args.key.now c.args.text.now)
