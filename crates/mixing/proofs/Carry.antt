@@ -5,14 +5,14 @@ use mathlib.Core.List.{List}
 use Prim.Native.Nat.{ℕ, ◌+◌, ◌*◌, ◌<◌}
 use native.Mathlib.Omega.{arith}
 use lib.Bits.{bit_xor}
-use lib.ListN.{length, get_or, take}
-use lib.Seq.{length-take-le}
-use Rattle.lent.specs.Bytes.{part, Apart, tab, xors}
-use Rattle.lent.specs.Word.{of_le}
+use lib.ListN.{length, get_or}
+use Rattle.lent.specs.Bytes.{part, Apart, tab, joined, xors}
+use Rattle.lent.specs.Word.{le, of_le}
 use Rattle.lent.proofs.Parts.{part-sets_apart}
+use Rattle.lent.proofs.Tabs.{Laid}
 use Rattle.lent.proofs.Arrays.{xors-tab}
-use Rattle.salsa.specs.Salsa.{words, bytes}
-use Rattle.salsa.proofs.Coding.{words-part, length-bytes, Stored}
+use Rattle.salsa.specs.Salsa.{words}
+use Rattle.salsa.proofs.Coding.{words-part}
 
 abbrev pub into : List ℕ → List ℕ → ℕ → ℕ → ℕ
 into y s from j = bit_xor (get_or y j 0) (of_le (part (from + 4 * j) 4 s))
@@ -22,9 +22,12 @@ into_all y s from h =
     let f : ℕ → ℕ = λ j. of_le (part (from + 4 * j) 4 s) in
     ap (λ (n : ℕ). tab n (into y s from)) (sym h) ∙ xors-tab y f ∙ ap (xors y) (ap (λ (n : ℕ). tab n f) h ∙ sym (words-part 16 64 from s (omega arith)))
 
+-- the bytes of word j
+abbrev pub out : List ℕ → ℕ → List ℕ
+out y j = le 4 (get_or y j 0)
+
 -- a piece apart from where words are being stored is read as it was
-pub stored_apart : {s₀ s y : List ℕ} {to i : ℕ} (from j : ℕ) → Stored s₀ to y s i → length y ≡ 16 → Apart 64 from to → j < 16 → part (from + 4 * j) 4 s ≡ part (from + 4 * j) 4 s₀
-stored_apart {s₀} {s} {y} {to} {i} from j was h apart k =
-    let long : length (bytes (take i y)) ≡ 4 * i = rw (length-bytes, length-take-le i y was.most) in
-    let most = was.most in
-    rw was.is (part-sets_apart 64 from to s₀ (from + 4 * j) 4 to (bytes (take i y)) apart (omega arith) (omega arith))
+pub laid_apart : {s₀ s : List ℕ} {to i : ℕ} {f : ℕ → List ℕ} (from j : ℕ) → Laid s₀ to 4 f s i → i < 17 → Apart 64 from to → j < 16 → part (from + 4 * j) 4 s ≡ part (from + 4 * j) 4 s₀
+laid_apart {s₀} {s} {to} {i} {f} from j was h apart k =
+    let long = was.long in
+    rw was.is (part-sets_apart 64 from to s₀ (from + 4 * j) 4 to (joined i f) apart (omega arith) (omega arith))

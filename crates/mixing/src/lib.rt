@@ -7,17 +7,18 @@ ghost use Rattle.lent.specs.Bytes.{part, Apart, xors};
 ghost use Rattle.salsa.specs.Salsa.{words, bytes};
 ghost use Rattle.mixing.specs.BlockMix.{block_mix};
 
+use lent::LittleEndian;
+
 // The words of the pieces at places a and b, one exclusive or the other.
 fn xored(s: &[u8], a: usize, b: usize) -> [u32; 16]
     requires { (a + 64 ≤ length s.now) × (b + 64 ≤ length s.now) }
     ensures { result ≡ xors (words 16 (part a 64 s.now)) (words 16 (part b 64 s.now)) }
 {
     let y = salsa::load(s, a);
+    let z = salsa::load(s, b);
     let mut x = [0u32; 16];
-    let mut j = 0;
-    while j < 16 {
-        x[j] = y[j] ^ lent::get_le32(s, b + 4 * j);
-        j += 1;
+    for j in 0..16 {
+        x[j] = y[j] ^ z[j];
     }
     x
 }
@@ -29,11 +30,9 @@ fn laid(s: &mut [u8], from: usize, to: usize, y: [u32; 16]) -> [u32; 16]
     ensures { (s.new ≡ sets s.old to (bytes y)) × (result ≡ xors y (words 16 (part from 64 s.old))) }
 {
     let mut x = [0u32; 16];
-    let mut j = 0;
-    while j < 16 {
-        lent::put_le32(s, to + 4 * j, y[j]);
-        x[j] = y[j] ^ lent::get_le32(s, from + 4 * j);
-        j += 1;
+    for j in 0..16 {
+        lent::put::<LittleEndian>(s, to + 4 * j, y[j]);
+        x[j] = y[j] ^ lent::get::<LittleEndian>(s, from + 4 * j);
     }
     x
 }
@@ -43,10 +42,7 @@ fn after(i: usize, n: usize) -> usize
     requires { i < n }
     ensures { (result < n) × (i + 1 < n → result ≡ i + 1) }
 {
-    if i + 1 < n {
-        return i + 1;
-    }
-    0
+    if i + 1 < n { i + 1 } else { 0 }
 }
 
 // Which piece of the result the ith is: the even ones come first, then the odd.
@@ -65,11 +61,8 @@ pub fn block_mix(s: &mut [u8], from: usize, to: usize, r: usize)
 {
     let n = 2 * r;
     let mut x = xored(s, from + 64 * (n - 1), from);
-    let mut i = 0;
-    while i < n {
+    for i in 0..n {
         let y = salsa::core(x);
-        let z = laid(s, from + 64 * after(i, n), to + 64 * place(i, r), y);
-        x = z;
-        i += 1;
+        x = laid(s, from + 64 * after(i, n), to + 64 * place(i, r), y);
     }
 }

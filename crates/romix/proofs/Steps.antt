@@ -1,6 +1,6 @@
 -- One step, case by case; what it keeps of the state; and that the scratch with its working block wiped is all it goes by.
 -- Assumes nothing.
-use Rattle.std.proofs.Common.{◌≡◌, ℕ, zero, suc, ◌+◌, ◌-◌, ◌*◌, ◌%◌, ◌<◌, ◌≤◌, ltb, List, length, sym, refl, ap, ◌∙◌, ap₂, zero-mul, arith, ltb-true, le-ltb, lt-ltb}
+use Rattle.std.proofs.Common.{◌≡◌, ℕ, zero, suc, ◌+◌, ◌*◌, ◌%◌, ◌<◌, ◌≤◌, ltb, List, length, sym, refl, ap, ◌∙◌, ap₂, zero-mul, arith, ltb-true, le-ltb, lt-ltb}
 use lib.Seq.{length-sets}
 use Rattle.lent.proofs.Picks.{pick_any}
 use Rattle.romix.specs.declared.State.{State}
@@ -93,21 +93,19 @@ pub fit_next : (t : State) (s : List ℕ) {long : ℕ} → Fit t long → Fit (n
 fit_next t s {long} fit = next_any t s (λ u. Fit u long) fit.turned (λ lane pos ahead made h. fit_moved t lane pos ahead made fit h)
 
 pub running_more : (t : State) (s₀ : List ℕ) (all : ℕ) (u : State) (s : List ℕ) (left : ℕ) (u' : State) (s' : List ℕ)
-    → Running t s₀ all u s left → 0 < left → u.lane < u.p → length s' ≡ length s → (u', clean u s') ≡ next u (clean u s)
-    → Running t s₀ all u' s' (left - 1)
-running_more t s₀ all u s left u' s' was h going kept e =
+    → Running t s₀ all u s (suc left) → u.lane < u.p → length s' ≡ length s → (u', clean u s') ≡ next u (clean u s)
+    → Running t s₀ all u' s' left
+running_more t s₀ all u s left u' s' was going kept e =
     let state : u' ≡ (next u (clean u s)).0 = ap (λ (c : State × List ℕ). c.0) e in
     let bytes : clean u s' ≡ (next u (clean u s)).1 = ap (λ (c : State × List ℕ). c.1) e in
-    let one : suc (left - 1) ≡ left = omega arith in
-    let same = clean_same t u s was.lanes was.size in
     record {
       lanes = rw state (next_any u (clean u s) (λ v. v.p ≡ t.p) was.fit.turned (λ _ _ _ _ _. was.lanes));
       size = rw state (next_any u (clean u s) (λ v. v.r ≡ t.r) was.fit.turned (λ _ _ _ _ _. was.size));
       fit = rw (state, kept) (fit_next u (clean u s) was.fit);
       long = kept ∙ was.long;
       rest =
-          ap₂ (after (left - 1)) state (sym (clean_same t u s' was.lanes was.size) ∙ bytes)
-          ∙ sym (after_more (left - 1) u (clean u s) going)
-          ∙ ap₂ (λ (m : ℕ) (l : List ℕ). after m u l) one same
+          ap₂ (after left) state (sym (clean_same t u s' was.lanes was.size) ∙ bytes)
+          ∙ sym (after_more left u (clean u s) going)
+          ∙ ap (after (suc left) u) (clean_same t u s was.lanes was.size)
           ∙ was.rest;
     }

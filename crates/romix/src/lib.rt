@@ -13,6 +13,10 @@ ghost use Rattle.lent.specs.Bytes.{part, zeros, xors, joined};
 ghost use Rattle.romix.specs.ROMix.{place, ro_mix, sum, mixings};
 ghost use Rattle.romix.specs.Machine.{opening, Room, Fit, block, blocks, get, put, at_x, clean, moved, more, mixed, kept, first, source, forward, settled, second, loaded, followed, finished, next, after};
 
+use lent::LittleEndian;
+
+// What `Room` and `Fit` ask stands in the contracts and is no ghost field: it is asked of a state and of the scratch that is
+// lent anew at each turn, and the definitions in Machine.antt take any state.
 #[derive(Clone, Copy)]
 pub struct State {
     // N, r and p
@@ -36,15 +40,11 @@ impl State {
         ensures { result ≡ moved self lane pos ahead made }
     {
         State {
-            n: self.n,
-            r: self.r,
-            p: self.p,
-            k: self.k,
-            w: self.w,
             lane,
             pos,
             ahead,
             made,
+            ..self
         }
     }
 
@@ -55,206 +55,206 @@ impl State {
     {
         i * (128 * self.r)
     }
-}
 
-// Block to becomes block from.
-fn copy_block(t: State, s: &mut [u8], from: usize, to: usize)
-    requires { Room t (length s.old) × (from < blocks t) × (to < blocks t) × (from ≢ to) }
-    ensures { s.new ≡ put t to (get t from s.old) s.old }
-{
-    lent::copy_within(s, t.at(from), t.at(to), 128 * t.r);
-}
-
-// Block to becomes the exclusive or of blocks a and b.
-fn xor_blocks(t: State, s: &mut [u8], a: usize, b: usize, to: usize)
-    requires { Room t (length s.old) × (a < blocks t) × (b < blocks t) × (to < blocks t) × (a ≢ to) × (b ≢ to) }
-    ensures { s.new ≡ put t to (xors (get t a s.old) (get t b s.old)) s.old }
-{
-    lent::xor_to(s, t.at(a), t.at(b), t.at(to), 128 * t.r);
-}
-
-// Wipes n blocks from block i on.
-fn wipe_blocks(t: State, s: &mut [u8], i: usize, n: usize)
-    requires { Room t (length s.old) × (i + n ≤ blocks t) }
-    ensures { s.new ≡ sets s.old (i * block t) (zeros (n * block t)) }
-{
-    lent::wipe(s, t.at(i), t.at(n));
-}
-
-// Every mixing of a derivation is made here, and here it is counted: block to becomes block from,
-// mixed, and the answer is the count raised by one.
-fn mix(t: State, s: &mut [u8], from: usize, to: usize) -> u64
-    requires { Room t (length s.old) × (from < blocks t) × (to < blocks t) × (from ≢ to) }
-    ensures { (result ≡ more t) × (s.new ≡ mixed t from to s.old) }
-{
-    mixing::block_mix(s, t.at(from), t.at(to), t.r);
-    std::num::wrapping_add_u64(t.made, 1)
-}
-
-// X is V[i]: stores it if it is one of those that are stored.
-fn keep(t: State, s: &mut [u8], i: usize)
-    requires { Room t (length s.old) × (0 < t.k) × (t.n ≤ t.w * t.k) }
-    ensures { s.new ≡ kept t i s.old }
-{
-    let k = t.k;
-    if i % k != 0 {
-        return;
+    // Block to becomes block from.
+    #[tactic(auto, using(crate::proofs::Blocks::block_at))]
+    fn copy_block(self, s: &mut [u8], from: usize, to: usize)
+        requires { Room self (length s.old) × (from < blocks self) × (to < blocks self) × (from ≢ to) }
+        ensures { s.new ≡ put self to (get self from s.old) s.old }
+    {
+        lent::copy_within(s, self.at(from), self.at(to), 128 * self.r);
     }
-    if t.n <= i {
-        return;
+
+    // Block to becomes the exclusive or of blocks a and b.
+    #[tactic(auto, using(crate::proofs::Blocks::block_at))]
+    fn xor_blocks(self, s: &mut [u8], a: usize, b: usize, to: usize)
+        requires { Room self (length s.old) × (a < blocks self) × (b < blocks self) × (to < blocks self) × (a ≢ to) × (b ≢ to) }
+        ensures { s.new ≡ put self to (xors (get self a s.old) (get self b s.old)) s.old }
+    {
+        lent::xor_to(s, self.at(a), self.at(b), self.at(to), 128 * self.r);
     }
-    copy_block(t, s, t.p, t.p + 3 + i / k);
-}
 
-// Step 2 of section 5: X becomes X mixed.
-fn pass_one(t: State, s: &mut [u8]) -> State
-    requires { Fit t (length s.old) }
-    ensures { (result, clean t s.new) ≡ first t (clean t s.old) }
-{
-    let x = t.p;
-    let pos = t.pos + 1;
-    copy_block(t, s, x, x + 2);
-    let made = mix(t, s, x + 2, x);
-    keep(t, s, pos);
-    t.moved(t.lane, pos, 0, made)
-}
-
-// The place that X names: j is its last 64 bytes, the lowest first, modulo N. N divides 2^32, so
-// four of the bytes decide it.
-fn look(t: State, s: &[u8]) -> usize
-    requires { Fit t (length s.now) }
-    ensures { (result ≡ place t.n (get t (at_x t) s.now)) × (result < t.n) }
-{
-    let last = t.at(t.p + 1) - 64;
-    let n = t.n;
-    lent::get_le32(s, last) as usize % n
-}
-
-// The block from which V[j] is reached, or is V[j] itself: the stored one below it, or the one that
-// was stepped forward from there.
-fn reach(t: State, j: usize) -> usize
-    requires { (0 < t.k) × (blocks t < 2 ^ 64) × (j / t.k < t.w) }
-    ensures { result ≡ source t j }
-{
-    let k = t.k;
-    if t.ahead == 0 {
-        return t.p + 3 + j / k;
+    // Wipes n blocks from block i on.
+    #[tactic(auto, using(crate::proofs::Blocks::blocks_in))]
+    fn wipe_blocks(self, s: &mut [u8], i: usize, n: usize)
+        requires { Room self (length s.old) × (i + n ≤ blocks self) }
+        ensures { s.new ≡ sets s.old (i * block self) (zeros (n * block self)) }
+    {
+        lent::wipe(s, self.at(i), self.at(n));
     }
-    t.p + 1
-}
 
-// One block nearer to V[j].
-fn step_forward(t: State, s: &mut [u8], j: usize) -> State
-    requires { Fit t (length s.old) × (j < t.n) × (t.ahead < t.k) }
-    ensures { (result, clean t s.new) ≡ forward t j (clean t s.old) }
-{
-    let x = t.p;
-    let from = reach(t, j);
-    copy_block(t, s, from, x + 2);
-    let made = mix(t, s, x + 2, x + 1);
-    t.moved(t.lane, t.pos, t.ahead + 1, made)
-}
-
-// The lookup is over: the block that was stepped forward is wiped, if there was one.
-fn settle(t: State, s: &mut [u8])
-    requires { Room t (length s.old) }
-    ensures { s.new ≡ settled t s.old }
-{
-    if t.ahead == 0 {
-        return;
+    // Every mixing of a derivation is made here, and here it is counted: block to becomes block from,
+    // mixed, and the answer is the count raised by one.
+    #[tactic(auto, using(crate::proofs::Blocks::block_at))]
+    fn mix(self, s: &mut [u8], from: usize, to: usize) -> u64
+        requires { Room self (length s.old) × (from < blocks self) × (to < blocks self) × (from ≢ to) }
+        ensures { (result ≡ more self) × (s.new ≡ mixed self from to s.old) }
+    {
+        mixing::block_mix(s, self.at(from), self.at(to), self.r);
+        self.made.wrapping_add(1)
     }
-    wipe_blocks(t, s, t.p + 1, 1);
-}
 
-// Step 3 of section 5: X becomes X xor V[j], mixed.
-fn pass_two(t: State, s: &mut [u8], j: usize) -> State
-    requires { Fit t (length s.old) × (j < t.n) }
-    ensures { (result, clean t s.new) ≡ second t j (clean t s.old) }
-{
-    let x = t.p;
-    let from = reach(t, j);
-    xor_blocks(t, s, x, from, x + 2);
-    let made = mix(t, s, x + 2, x);
-    settle(t, s);
-    t.moved(t.lane, t.pos + 1, 0, made)
-}
-
-// A lane begins: its block becomes X and V[0].
-pub fn load(t: State, s: &mut [u8], lane: usize)
-    requires { Room t (length s.old) × (0 < t.w) × (lane < t.p) }
-    ensures { s.new ≡ loaded t lane s.old }
-{
-    copy_block(t, s, lane, t.p);
-    copy_block(t, s, lane, t.p + 3);
-}
-
-// The lane after a finished one, if there is one, begins on wiped stored blocks.
-fn follow(t: State, s: &mut [u8], lane: usize)
-    requires { Room t (length s.old) × (0 < t.w) }
-    ensures { s.new ≡ followed t lane s.old }
-{
-    if t.p <= lane {
-        return;
+    // X is V[i]: stores it if it is one of those that are stored.
+    #[tactic(auto, using(crate::proofs::Blocks::blocks_few, crate::proofs::Blocks::stored_in), unfolding(crate::specs::Machine::kept))]
+    fn keep(self, s: &mut [u8], i: usize)
+        requires { Room self (length s.old) × (0 < self.k) × (self.n ≤ self.w * self.k) }
+        ensures { s.new ≡ kept self i s.old }
+    {
+        if i % self.k == 0 && i < self.n {
+            self.copy_block(s, self.p, self.p + 3 + i / self.k);
+        }
     }
-    wipe_blocks(t, s, t.p + 3, t.w);
-    load(t, s, lane);
-}
 
-// X is the lane's block in the end.
-fn finish(t: State, s: &mut [u8], made: u64) -> State
-    requires { Room t (length s.old) × (0 < t.w) × (t.lane < t.p) }
-    ensures { (result, s.new) ≡ finished t made s.old }
-{
-    let lane = t.lane;
-    copy_block(t, s, t.p, lane);
-    follow(t, s, lane + 1);
-    t.moved(lane + 1, 0, 0, made)
-}
+    // Step 2 of section 5: X becomes X mixed.
+    #[tactic(auto, using(crate::proofs::Blocks::blocks_few))]
+    fn pass_one(self, s: &mut [u8]) -> State
+        requires { Fit self (length s.old) }
+        ensures { (result, clean self s.new) ≡ first self (clean self s.old) }
+    {
+        let x = self.p;
+        let pos = self.pos + 1;
+        self.copy_block(s, x, x + 2);
+        let made = self.mix(s, x + 2, x);
+        self.keep(s, pos);
+        self.moved(self.lane, pos, 0, made)
+    }
 
-// One mixing. It asks nothing of the bytes: whatever lies in the scratch, it is safe and ends.
-pub fn step(t: State, s: &mut [u8]) -> State
-    requires { Fit t (length s.old) × (t.lane < t.p) }
-    ensures { (result, clean t s.new) ≡ next t (clean t s.old) }
-{
-    let n = t.n;
-    if t.pos < n {
-        return pass_one(t, s);
+    // The place that X names: j is its last 64 bytes, the lowest first, modulo N. N divides 2^32, so
+    // four of the bytes decide it.
+    #[tactic(auto, using(crate::proofs::Blocks::blocks_few, crate::proofs::Blocks::block_in))]
+    fn look(self, s: &[u8]) -> usize
+        requires { Fit self (length s.now) }
+        ensures { (result ≡ place self.n (get self (at_x self) s.now)) × (result < self.n) }
+    {
+        let last = self.at(self.p + 1) - 64;
+        lent::get::<LittleEndian>(s, last) as usize % self.n
     }
-    let j = look(t, s);
-    let k = t.k;
-    if t.ahead < j % k {
-        return step_forward(t, s, j);
-    }
-    let u = pass_two(t, s, j);
-    if t.pos + 1 < 2 * n {
-        return u;
-    }
-    finish(t, s, u.made)
-}
 
-// As many mixings as the allowance, or all that are left if fewer.
-pub fn run(t: State, s: &mut [u8], allowance: u64) -> State
-    requires { Fit t (length s.old) }
-    ensures { (result, clean t s.new) ≡ after allowance t (clean t s.old) }
-{
-    let p = t.p;
-    let mut u = t;
-    let mut lane = t.lane;
-    let mut left = allowance;
-    while 0 < left {
-        if p <= lane {
+    // The block from which V[j] is reached, or is V[j] itself: the stored one below it, or the one that
+    // was stepped forward from there.
+    fn reach(self, j: usize) -> usize
+        requires { (0 < self.k) × (blocks self < 2 ^ 64) × (j / self.k < self.w) }
+        ensures { result ≡ source self j }
+    {
+        if self.ahead == 0 {
+            self.p + 3 + j / self.k
+        } else {
+            self.p + 1
+        }
+    }
+
+    // One block nearer to V[j].
+    #[tactic(auto, using(crate::proofs::Blocks::blocks_few, crate::proofs::Blocks::stored_in, crate::proofs::Blocks::source_in, crate::proofs::Clean::made_mixed), unfolding(crate::specs::Machine::forward))]
+    fn step_forward(self, s: &mut [u8], j: usize) -> State
+        requires { Fit self (length s.old) × (j < self.n) × (self.ahead < self.k) }
+        ensures { (result, clean self s.new) ≡ forward self j (clean self s.old) }
+    {
+        let x = self.p;
+        let from = self.reach(j);
+        self.copy_block(s, from, x + 2);
+        let made = self.mix(s, x + 2, x + 1);
+        self.moved(self.lane, self.pos, self.ahead + 1, made)
+    }
+
+    // The lookup is over: the block that was stepped forward is wiped, if there was one.
+    #[tactic(auto, using(crate::proofs::Blocks::blocks_few), unfolding(crate::specs::Machine::settled))]
+    fn settle(self, s: &mut [u8])
+        requires { Room self (length s.old) }
+        ensures { s.new ≡ settled self s.old }
+    {
+        if self.ahead != 0 {
+            self.wipe_blocks(s, self.p + 1, 1);
+        }
+    }
+
+    // Step 3 of section 5: X becomes X xor V[j], mixed.
+    #[tactic(auto, using(crate::proofs::Blocks::blocks_few, crate::proofs::Blocks::stored_in, crate::proofs::Blocks::source_in))]
+    fn pass_two(self, s: &mut [u8], j: usize) -> State
+        requires { Fit self (length s.old) × (j < self.n) }
+        ensures { (result, clean self s.new) ≡ second self j (clean self s.old) }
+    {
+        let x = self.p;
+        let from = self.reach(j);
+        self.xor_blocks(s, x, from, x + 2);
+        let made = self.mix(s, x + 2, x);
+        self.settle(s);
+        self.moved(self.lane, self.pos + 1, 0, made)
+    }
+
+    // A lane begins: its block becomes X and V[0].
+    #[tactic(auto, using(crate::proofs::Blocks::blocks_few))]
+    pub fn load(self, s: &mut [u8], lane: usize)
+        requires { Room self (length s.old) × (0 < self.w) × (lane < self.p) }
+        ensures { s.new ≡ loaded self lane s.old }
+    {
+        self.copy_block(s, lane, self.p);
+        self.copy_block(s, lane, self.p + 3);
+    }
+
+    // The lane after a finished one, if there is one, begins on wiped stored blocks.
+    #[tactic(auto, using(crate::proofs::Blocks::blocks_few), unfolding(crate::specs::Machine::followed))]
+    fn follow(self, s: &mut [u8], lane: usize)
+        requires { Room self (length s.old) × (0 < self.w) }
+        ensures { s.new ≡ followed self lane s.old }
+    {
+        if lane < self.p {
+            self.wipe_blocks(s, self.p + 3, self.w);
+            self.load(s, lane);
+        }
+    }
+
+    // X is the lane's block in the end.
+    #[tactic(auto, unfolding(crate::specs::Machine::finished))]
+    fn finish(self, s: &mut [u8], made: u64) -> State
+        requires { Room self (length s.old) × (0 < self.w) × (self.lane < self.p) }
+        ensures { (result, s.new) ≡ finished self made s.old }
+    {
+        let lane = self.lane;
+        self.copy_block(s, self.p, lane);
+        self.follow(s, lane + 1);
+        self.moved(lane + 1, 0, 0, made)
+    }
+
+    // One mixing. It asks nothing of the bytes: whatever lies in the scratch, it is safe and ends.
+    #[tactic(auto, using(crate::proofs::Steps::some_stored))]
+    pub fn step(self, s: &mut [u8]) -> State
+        requires { Fit self (length s.old) × (self.lane < self.p) }
+        ensures { (result, clean self s.new) ≡ next self (clean self s.old) }
+    {
+        if self.pos < self.n {
+            return self.pass_one(s);
+        }
+        let j = self.look(s);
+        if self.ahead < j % self.k {
+            return self.step_forward(s, j);
+        }
+        let u = self.pass_two(s, j);
+        if self.pos + 1 < 2 * self.n {
             return u;
         }
-        u = step(u, s);
-        lane = u.lane;
-        left -= 1;
+        self.finish(s, u.made)
     }
-    u
+
+    // As many mixings as the allowance, or all that are left if fewer.
+    pub fn run(self, s: &mut [u8], allowance: u64) -> State
+        requires { Fit self (length s.old) }
+        ensures { (result, clean self s.new) ≡ after allowance self (clean self s.old) }
+    {
+        let mut u = self;
+        for _ in 0..allowance {
+            if u.p <= u.lane {
+                return u;
+            }
+            u = u.step(s);
+        }
+        u
+    }
 }
 
 // ROMix in each of the p lanes at the front of the scratch, with one block in k stored, w of them.
 // The answer is the number of mixings made. Behind the lanes the scratch is left as the machine left
 // it: whoever lends it wipes it.
+#[tactic(auto, using(crate::proofs::Steps::some_stored))]
 pub fn mix_lanes(
     n: usize,
     r: usize,
@@ -279,7 +279,7 @@ pub fn mix_lanes(
         ahead: 0,
         made: 0,
     };
-    load(t, s, 0);
-    let end = run(t, s, allowance);
+    t.load(s, 0);
+    let end = t.run(s, allowance);
     end.made
 }

@@ -4,14 +4,13 @@
 use mathlib.Core.Path.{◌≡◌, refl, sym, ap, ◌∙◌}
 use mathlib.Core.List.{List, [], ◌∷◌, ◌++◌, append_assoc, append-nil}
 use Prim.Native.Nat.{ℕ, zero, suc, ◌+◌, ◌*◌, ◌^◌, ◌≤◌, ◌<◌}
-use native.Mathlib.Numerals.{add-one}
 use native.Mathlib.Omega.{arith}
 use lib.Bits.{bit_xor}
 use lib.ListN.{length, get_or, take, drop, length-append, length-drop, take-append-drop, drop_of_length-le}
-use lib.Seq.{sets, length-sets, take_at, drop_at, drop-drop, take_all, take-suc, length-take-le}
-use Rattle.lent.specs.Bytes.{part, tab, xors, Bytes}
+use lib.Seq.{take_at, drop_at, drop-drop, take_all, take-suc, length-take-le}
+use Rattle.lent.specs.Bytes.{part, tab, joined, xors, Bytes}
 use Rattle.lent.specs.Word.{le, of_le}
-use Rattle.lent.proofs.Parts.{part-part, sets-append}
+use Rattle.lent.proofs.Parts.{part-part}
 use Rattle.lent.proofs.Tabs.{length-tab, tab-front, tab_ext}
 use Rattle.lent.proofs.Words.{length-le, of_le_lt, of_le-le, le-of_le}
 use Rattle.lent.proofs.Bounds.{below_nil, below_cons, below_append, below_le, below_take, below_drop, of_le-xors}
@@ -105,26 +104,11 @@ words-xors zero a b h g k l = rw (words_none (xors a b), words_none a)
 words-xors (suc n) a b h g k l =
     rw (words-front n (xors a b), words-front n a, words-front n b, take-xors 4 a b, drop-xors 4 a b (h ∙ sym g), of_le-xors (take 4 a) (take 4 b) (front n a h ∙ sym (front n b g)) (below_take 256 4 a k) (below_take 256 4 b l), words-xors n (drop 4 a) (drop 4 b) (rest n a h) (rest n b g) (below_drop 256 4 a k) (below_drop 256 4 b l))
 
--- The invariant of a loop that stores the words x from place `at` on, after i turns; before the first; after one more; after the last.
-pub record Stored (s₀ : List ℕ) (at : ℕ) (x : List ℕ) (s : List ℕ) (i : ℕ) : Type 0 where
-  pub is : s ≡ sets s₀ at (bytes (take i x))
-  pub kept : length s ≡ length s₀
-  pub most : i ≤ length x
+-- the words written one behind the other
+joined-take : (x : List ℕ) (n : ℕ) → n ≤ length x → joined n (λ i. le 4 (get_or x i 0)) ≡ bytes (take n x)
+unfolding joined bytes
+joined-take x zero h = refl
+joined-take x (suc n) h = rw (joined-take x n (omega arith), take-suc x n 0 (omega arith), bytes-append, append-nil)
 
-pub stored_none : (s₀ : List ℕ) (at : ℕ) (x : List ℕ) → Stored s₀ at x s₀ 0
-unfolding bytes
-stored_none s₀ at x = record { is = refl; kept = refl; most = omega arith }
-
-pub stored_more : {s₀ s x : List ℕ} {at i : ℕ} → Stored s₀ at x s i → i < length x → Stored s₀ at x (sets s (at + 4 * i) (le 4 (get_or x i 0))) (i + 1)
-unfolding bytes
-stored_more {s₀} {s} {x} {at} {i} was h =
-    let front : bytes (take (suc i) x) ≡ bytes (take i x) ++ le 4 (get_or x i 0) = rw (take-suc x i 0 h, bytes-append, append-nil) in
-    let long : length (bytes (take i x)) ≡ 4 * i = rw (length-bytes, length-take-le i x (omega arith)) in
-    record {
-      is = rw (was.is, add-one, front, sets-append, long);
-      kept = rw length-sets was.kept;
-      most = omega arith;
-    }
-
-pub stored_all : {s₀ s x : List ℕ} {at i : ℕ} → Stored s₀ at x s i → length x ≤ i → s ≡ sets s₀ at (bytes x)
-stored_all {s₀} {s} {x} {at} {i} was h = was.is ∙ ap (λ (l : List ℕ). sets s₀ at (bytes l)) (take_all i x h)
+pub joined-bytes : (x : List ℕ) → joined (length x) (λ i. le 4 (get_or x i 0)) ≡ bytes x
+joined-bytes x = joined-take x (length x) (omega arith) ∙ ap bytes (take_all (length x) x (omega arith))

@@ -7,16 +7,20 @@ ghost use Rattle.lent.specs.Bytes.{part};
 ghost use Rattle.salsa.specs.Salsa as spec;
 ghost use Rattle.salsa.specs.Salsa.{salsa, words, bytes};
 
+use lent::LittleEndian;
+
 // x[d] ^= R(x[a] + x[b], k)
+#[tactic(auto, using(lent::proofs::Words::rotl_is), unfolding(crate::specs::Salsa::step))]
 fn step(x: [u32; 16], d: usize, a: usize, b: usize, k: u32) -> [u32; 16]
     requires { (d < 16) × (a < 16) × (b < 16) × (0 < k) × (k < 32) }
     ensures { result ≡ spec.step x d a b k }
 {
     let mut y = x;
-    y[d] = y[d] ^ lent::rol(lent::add(y[a], y[b]), k);
+    y[d] ^= y[a].wrapping_add(y[b]).rotate_left(k);
     y
 }
 
+#[tactic(auto, unfolding(crate::specs::Salsa::quarter))]
 fn quarter(x: [u32; 16], a: usize, b: usize, c: usize, d: usize) -> [u32; 16]
     requires { (a < 16) × (b < 16) × (c < 16) × (d < 16) }
     ensures { result ≡ spec.quarter x a b c d }
@@ -30,6 +34,7 @@ fn quarter(x: [u32; 16], a: usize, b: usize, c: usize, d: usize) -> [u32; 16]
     )
 }
 
+#[tactic(auto, unfolding(crate::specs::Salsa::columns))]
 fn columns(x: [u32; 16]) -> [u32; 16]
     ensures { result ≡ spec.columns x }
 {
@@ -42,6 +47,7 @@ fn columns(x: [u32; 16]) -> [u32; 16]
     )
 }
 
+#[tactic(auto, unfolding(crate::specs::Salsa::rows))]
 fn rows(x: [u32; 16]) -> [u32; 16]
     ensures { result ≡ spec.rows x }
 {
@@ -54,20 +60,8 @@ fn rows(x: [u32; 16]) -> [u32; 16]
     )
 }
 
-// x[i] + input[i], modulo 2^32.
-fn added(x: [u32; 16], input: [u32; 16]) -> [u32; 16]
-    ensures { result ≡ spec.added x input }
-{
-    let mut z = [0u32; 16];
-    let mut i = 0;
-    while i < 16 {
-        z[i] = lent::add(x[i], input[i]);
-        i += 1;
-    }
-    z
-}
-
-// The Salsa20/8 core.
+// The Salsa20/8 core: four double rounds, one to the next. A loop over them takes a seventh more time.
+#[tactic(auto, unfolding(crate::specs::Salsa::salsa, crate::specs::Salsa::doubles, crate::specs::Salsa::added))]
 pub fn core(x: [u32; 16]) -> [u32; 16]
     ensures { result ≡ salsa 8 x }
 {
@@ -75,7 +69,7 @@ pub fn core(x: [u32; 16]) -> [u32; 16]
     let b = rows(columns(a));
     let c = rows(columns(b));
     let d = rows(columns(c));
-    added(d, x)
+    lent::sums(&d, &x)
 }
 
 // The sixteen words of the 64 bytes at place at.
@@ -83,13 +77,7 @@ pub fn load(s: &[u8], at: usize) -> [u32; 16]
     requires { at + 64 ≤ length s.now }
     ensures { result ≡ words 16 (part at 64 s.now) }
 {
-    let mut x = [0u32; 16];
-    let mut i = 0;
-    while i < 16 {
-        x[i] = lent::get_le32(s, at + 4 * i);
-        i += 1;
-    }
-    x
+    lent::load::<LittleEndian, 16>(s, at)
 }
 
 // Writes the sixteen words as 64 bytes at place at.
@@ -97,9 +85,5 @@ pub fn store(s: &mut [u8], at: usize, x: [u32; 16])
     requires { at + 64 ≤ length s.old }
     ensures { s.new ≡ sets s.old at (bytes x) }
 {
-    let mut i = 0;
-    while i < 16 {
-        lent::put_le32(s, at + 4 * i, x[i]);
-        i += 1;
-    }
+    lent::store::<LittleEndian, 16>(s, at, &x);
 }

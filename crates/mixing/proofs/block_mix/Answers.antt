@@ -15,7 +15,7 @@ loop-i-preserved c =
     let pre = c.requires in
     let blocks : Blocks c.args.s.now c.args.from c.args.to c.args.r = record { some = pre.0; reads = pre.2; writes = pre.3; apart = omega arith; bytes = search rules } in
     let turn = mixed-more _ blocks c.loop-i.invariant c.loop-i-test.true c.after.ensures in
-    rw (c.laid-z.ensures.0, c.laid-z.ensures.1, c.place.ensures.1, c.core-y.ensures) turn
+    rw (c.laid-x.ensures.0, c.laid-x.ensures.1, c.place.ensures.1, c.core-y.ensures) turn
 
 pub returns : goal.returns
 returns c = mixed_all c.loop-i.invariant c.loop-i-test.false

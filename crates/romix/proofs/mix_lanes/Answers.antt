@@ -4,14 +4,9 @@ use Rattle.lent.proofs.Tabs.{part-joined, joined_ext}
 use Rattle.romix.specs.declared.State.{State}
 use Rattle.romix.specs.Machine.{opening, get, loaded, clean, after}
 use Rattle.romix.proofs.Clean.{get-clean}
-use Rattle.romix.proofs.Steps.{some_stored}
 use Rattle.romix.proofs.Meaning.{total}
 use Rattle.romix.proofs.Runs.{Ended, runs_all, total_most}
 use Rattle.romix.proofs.mix_lanes.Goals as goal
-
-pub load-requires : goal.load-requires
-load-requires c =
-    (c.requires.0.within, some_stored c.args.n c.args.w c.args.k c.requires.0.some c.requires.0.held, c.requires.1)
 
 pub returns : goal.returns
 returns c =

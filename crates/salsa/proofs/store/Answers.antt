@@ -1,20 +1,13 @@
--- `salsa::store` meets its contract: after i turns the first i words are written.
-use borrow.Author.Rules.{rules}
-use mathlib.Core.Path.{◌≡◌}
-use native.Mathlib.Omega.{arith}
-use lib.ListN.{length}
-use Rattle.salsa.proofs.Coding.{stored_none, stored_more, stored_all}
+-- `salsa::store` meets its contract: words that are written one behind the other are their bytes.
+use Rattle.std.proofs.Common.{rules, ◌≡◌, length, get_or, ℕ, ap, sym, ◌∙◌}
+use Rattle.std.proofs.lemmas.List.Edits.{sets}
+use Rattle.lent.specs.Bytes.{joined}
+use Rattle.lent.specs.Word.{le}
+use Rattle.salsa.proofs.Coding.{joined-bytes}
 use Rattle.salsa.proofs.store.Goals as goal
-
-pub loop-i-init : goal.loop-i-init
-loop-i-init c = stored_none _ _ _
-
-pub loop-i-preserved : goal.loop-i-preserved
-loop-i-preserved c =
-    let long : length c.args.x ≡ 16 = search rules in
-    rw c.put_le32.ensures (stored_more c.loop-i.invariant (omega arith))
 
 pub returns : goal.returns
 returns c =
-    let long : length c.args.x ≡ 16 = search rules in
-    stored_all c.loop-i.invariant (omega arith)
+    let x = c.args.x in
+    let long : length x ≡ 16 = search rules in
+    c.store.ensures ∙ ap (sets c.args.s.now c.args.at) (ap (λ (n : ℕ). joined n (λ i. le 4 (get_or x i 0))) (sym long) ∙ joined-bytes x)
