@@ -1,6 +1,7 @@
 -- What is said of a login as a whole: no second answer, no part for the bytes that lay in the scratch, and every answer told apart. Assumes nothing.
 use mathlib.Core.Path.{◌≡◌, refl, sym, ap, ◌∙◌}
 use mathlib.Core.List.{List}
+use Rattle.std.specs.Prelude.{Bool, true, false, Result, Ok, Err}
 use Prim.Native.Nat.{ℕ}
 use native.Mathlib.Omega.{arith}
 use lib.Dec.{eqb}
@@ -9,8 +10,7 @@ use Rattle.lent.specs.Bytes.{pick}
 use Rattle.lent.proofs.Picks.{pick_ap}
 use Rattle.cost.specs.declared.Cost.{Cost}
 use Rattle.scrypt.specs.declared.Plan.{Plan}
-use Rattle.scrypt.specs.declared.Plan.TheVariants.{Go, No}
-use Rattle.scrypt.specs.declared.Answer.TheVariants.{Refused as NotDerived}
+use Rattle.scrypt.specs.declared.Derived.{Derived}
 use Rattle.scrypt.specs.declared.Reason as DeriveReason
 use Rattle.scrypt.specs.Plans as Derive
 use Rattle.scrypt.proofs.Apart.{told_apart}
@@ -22,8 +22,6 @@ use Rattle.text.specs.Paper as TextPaper
 use Rattle.text.specs.Login as Texts
 use Rattle.login.specs.declared.Desk.{Desk}
 use Rattle.login.specs.declared.Desk.TheVariants.{OfCard, OfText, OfDerivation}
-use Rattle.login.specs.declared.Login.{Login}
-use Rattle.login.specs.declared.Login.TheVariants.{Yes, No as Nay, Refused}
 use Rattle.login.specs.Login.{Told, paper, refused_by, cost_on, compared, weighed, login_of}
 
 -- two outcomes that meet the promise are one
@@ -33,9 +31,9 @@ no_second text card scratch allowance one other e f = e ∙ sym f
 -- ---- the answer goes by the scratch's length and not its bytes
 
 module _ (P S K : List ℕ) (c : Cost) (n : ℕ) (s s' : List ℕ) where
-  same_verdict : (plan : Plan) → (compared P S K c n s plan).0 ≡ (compared P S K c n s' plan).0
-  same_verdict (Go k w) = refl
-  same_verdict (No why) = refl
+  same_verdict : (plan : Result Plan DeriveReason.Reason) → (compared P S K c n s plan).0 ≡ (compared P S K c n s' plan).0
+  same_verdict (Ok plan) = refl
+  same_verdict (Err why) = refl
 
   weighed_by_length : (allowance : ℕ) → length s ≡ length s' → (weighed P S K c n s allowance).0 ≡ (weighed P S K c n s' allowance).0
   unfolding weighed
@@ -66,10 +64,11 @@ texts_apart UserLength UserLength e = refl
 
 derivations_apart : (a b : DeriveReason.Reason) → Derive.reason_no a ≡ Derive.reason_no b → a ≡ b
 derivations_apart a b e =
-    let same : NotDerived a ≡ NotDerived b = told_apart (NotDerived a) (NotDerived b) (ap (λ (n : ℕ). record { number = n; spacing = 0; stored = 0; mixings = 0 }) e) in
+    let refused : DeriveReason.Reason → Result Derived DeriveReason.Reason = Err in
+    let same : refused a ≡ refused b = told_apart (Err a) (Err b) (ap (λ (n : ℕ). record { number = n; spacing = 0; stored = 0; mixings = 0 }) e) in
     cc
 
-desks_apart : (d e : Desk) → paper (Refused d) ≡ paper (Refused e) → d ≡ e
+desks_apart : (d e : Desk) → paper (Err d) ≡ paper (Err e) → d ≡ e
 desks_apart (OfCard a) (OfCard b) p = ap OfCard (reasons_apart (ap (λ (t : Told). t.number) p))
 desks_apart (OfText a) (OfText b) p = ap OfText (texts_apart a b (ap (λ (t : Told). t.number) p))
 desks_apart (OfDerivation a) (OfDerivation b) p = ap OfDerivation (derivations_apart a b (ap (λ (t : Told). t.number) p))
@@ -80,18 +79,18 @@ desks_apart (OfText a) (OfDerivation b) p = absurd (omega (arith, ap (λ (t : To
 desks_apart (OfDerivation a) (OfCard b) p = absurd (omega (arith, ap (λ (t : Told). t.desk) p))
 desks_apart (OfDerivation a) (OfText b) p = absurd (omega (arith, ap (λ (t : Told). t.desk) p))
 
-refusal : (d : Desk) → (paper (Refused d)).answer ≡ 2
+refusal : (d : Desk) → (paper (Err d)).answer ≡ 2
 refusal (OfCard why) = refl
 refusal (OfText why) = refl
 refusal (OfDerivation why) = refl
 
-pub answers_apart : (x y : Login) → paper x ≡ paper y → x ≡ y
-answers_apart Yes Yes p = refl
-answers_apart Nay Nay p = refl
-answers_apart (Refused d) (Refused e) p = ap Refused (desks_apart d e p)
-answers_apart Yes Nay p = absurd (omega (arith, ap (λ (t : Told). t.answer) p))
-answers_apart Nay Yes p = absurd (omega (arith, ap (λ (t : Told). t.answer) p))
-answers_apart Yes (Refused d) p = absurd (omega (arith, ap (λ (t : Told). t.answer) p, refusal d))
-answers_apart Nay (Refused d) p = absurd (omega (arith, ap (λ (t : Told). t.answer) p, refusal d))
-answers_apart (Refused d) Yes p = absurd (omega (arith, ap (λ (t : Told). t.answer) p, refusal d))
-answers_apart (Refused d) Nay p = absurd (omega (arith, ap (λ (t : Told). t.answer) p, refusal d))
+pub answers_apart : (x y : Result Bool Desk) → paper x ≡ paper y → x ≡ y
+answers_apart (Ok true) (Ok true) p = refl
+answers_apart (Ok false) (Ok false) p = refl
+answers_apart (Err d) (Err e) p = ap Err (desks_apart d e p)
+answers_apart (Ok true) (Ok false) p = absurd (omega (arith, ap (λ (t : Told). t.answer) p))
+answers_apart (Ok false) (Ok true) p = absurd (omega (arith, ap (λ (t : Told). t.answer) p))
+answers_apart (Ok true) (Err d) p = absurd (omega (arith, ap (λ (t : Told). t.answer) p, refusal d))
+answers_apart (Ok false) (Err d) p = absurd (omega (arith, ap (λ (t : Told). t.answer) p, refusal d))
+answers_apart (Err d) (Ok true) p = absurd (omega (arith, ap (λ (t : Told). t.answer) p, refusal d))
+answers_apart (Err d) (Ok false) p = absurd (omega (arith, ap (λ (t : Told). t.answer) p, refusal d))

@@ -1,9 +1,9 @@
 -- The login check: the card is asked first (21 to 25), then the text (31, 32), then the derivation (1 to 9).
-use Rattle.std.specs.Prelude.{List, ℕ, ◌^◌, eqb, length}
+use Rattle.std.specs.Prelude.{Bool, true, false, Result, Ok, Err, List, ℕ, ◌^◌, eqb, length}
 use Rattle.lent.specs.Bytes.{pick, zeros, eqs}
 use Rattle.cost.specs.declared.Cost.{Cost}
 use Rattle.scrypt.specs.declared.Plan.{Plan}
-use Rattle.scrypt.specs.declared.Plan.TheVariants.{Go, No}
+use Rattle.scrypt.specs.declared.Reason.{Reason}
 use Rattle.scrypt.specs.Plans.{plan_of}
 use Rattle.scrypt.specs.Plans as Derive
 use Rattle.scrypt.specs.Scrypt.{scrypt}
@@ -13,8 +13,6 @@ use Rattle.text.specs.Login as Texts
 use Rattle.text.specs.Paper as TextPaper
 use Rattle.login.specs.declared.Desk.{Desk}
 use Rattle.login.specs.declared.Desk.TheVariants.{OfCard, OfText, OfDerivation}
-use Rattle.login.specs.declared.Login.{Login}
-use Rattle.login.specs.declared.Login.TheVariants.{Yes, No as Nay, Refused}
 
 -- An answer in the paper's numbers: 0 no, 1 yes, 2 refused; the desk that refused, 1 card, 2 text, 3 derivation, and its number; both 0 for yes and no.
 pub record Told : Type 0 where
@@ -36,10 +34,10 @@ desk_told (OfCard why) = refused_by 1 (CardPaper.reason_no why)
 desk_told (OfText why) = refused_by 2 (TextPaper.reason_no why)
 desk_told (OfDerivation why) = refused_by 3 (Derive.reason_no why)
 
-abbrev pub paper : Login → Told
-paper Yes = yea
-paper Nay = nay
-paper (Refused desk) = desk_told desk
+abbrev pub paper : Result Bool Desk → Told
+paper (Ok true) = yea
+paper (Ok false) = nay
+paper (Err desk) = desk_told desk
 
 -- ---- what a login answers, and what it leaves of the scratch
 
@@ -48,9 +46,9 @@ abbrev pub cost_on : List ℕ → Cost
 cost_on card = let x = Cards.read_of card in record { n = record { 0 = 2 ^ x.exponent }; r = x.r; p = x.p }
 
 -- P the password, S and K the salt and the key on the card, n the key's length: yes exactly when RFC 7914's key is K
-abbrev pub compared : List ℕ → List ℕ → List ℕ → Cost → ℕ → List ℕ → Plan → Told × List ℕ
-compared P S K c n scratch (Go k w) = (pick (eqs (scrypt P S c.n.0 c.r c.p n) K) yea nay, zeros (length scratch))
-compared P S K c n scratch (No why) = (refused_by 3 (Derive.reason_no why), scratch)
+abbrev pub compared : List ℕ → List ℕ → List ℕ → Cost → ℕ → List ℕ → Result Plan Reason → Told × List ℕ
+compared P S K c n scratch (Ok plan) = (pick (eqs (scrypt P S c.n.0 c.r c.p n) K) yea nay, zeros (length scratch))
+compared P S K c n scratch (Err why) = (refused_by 3 (Derive.reason_no why), scratch)
 
 unfoldable pub weighed : List ℕ → List ℕ → List ℕ → Cost → ℕ → List ℕ → ℕ → Told × List ℕ
 weighed P S K c n scratch allowance = compared P S K c n scratch (plan_of (length P) (length S) n (length scratch) allowance c)

@@ -2,33 +2,54 @@
 // and why.
 #![tactic(auto)]
 
-ghost use Rattle.std.specs.Prelude.{◌≡◌, length};
+ghost use Rattle.std.specs.Prelude.{◌≡◌, Ok, length};
 ghost use Rattle.card.specs.Refusals.{read_of as card_of, salt_of, key_of};
 ghost use Rattle.card.specs.Paper.{paper as cardPaper};
-ghost use Rattle.card.specs.declared.Card.TheVariants.{Good};
 ghost use Rattle.login.specs.Login.{paper, cost_on, weighed, login_of};
 
-use card::{Card, Meaning};
-use cost::{Checked, Cost};
-use scrypt::Answer;
-use text::Text;
+use card::Meaning;
+use cost::Cost;
 
 // Which of the three desks refused, with that desk's own reason.
-#[derive(Clone, Copy)]
+#[derive(Clone, Copy, Debug, PartialEq, Eq)]
 pub enum Desk {
     OfCard(card::Reason),
     OfText(text::Reason),
     OfDerivation(scrypt::Reason),
 }
 
-#[derive(Clone, Copy)]
-pub enum Login {
-    Yes,
-    No,
-    Refused(Desk),
+impl From<card::Reason> for Desk {
+    ghost use Rattle.login.specs.declared.Desk.TheVariants.{OfCard};
+
+    ghost from_gives = { λ why desk. desk ≡ OfCard why };
+
+    fn from(why: card::Reason) -> Desk {
+        Desk::OfCard(why)
+    }
+}
+
+impl From<text::Reason> for Desk {
+    ghost use Rattle.login.specs.declared.Desk.TheVariants.{OfText};
+
+    ghost from_gives = { λ why desk. desk ≡ OfText why };
+
+    fn from(why: text::Reason) -> Desk {
+        Desk::OfText(why)
+    }
+}
+
+impl From<scrypt::Reason> for Desk {
+    ghost use Rattle.login.specs.declared.Desk.TheVariants.{OfDerivation};
+
+    ghost from_gives = { λ why desk. desk ≡ OfDerivation why };
+
+    fn from(why: scrypt::Reason) -> Desk {
+        Desk::OfDerivation(why)
+    }
 }
 
 // Derives the password's key into the room for it and holds it against the card's.
+#[tactic(auto, using(crate::proofs::Desks::weighed_refused, crate::proofs::Desks::weighed_answered))]
 fn weigh(
     password: &[u8],
     card: &[u8],
@@ -36,52 +57,39 @@ fn weigh(
     key: &mut [u8],
     scratch: &mut [u8],
     allowance: u64,
-) -> Login
+) -> Result<bool, Desk>
     ensures { (paper result, scratch.new)
         ≡ weighed password.now (salt_of card.now) (key_of card.now) c (length key.old) scratch.old allowance }
 {
-    match scrypt::derive(password, card::salt(card), c, key, scratch, allowance) {
-        Answer::Refused(why) => Login::Refused(Desk::OfDerivation(why)),
-        Answer::Derived {
-            spacing: _,
-            stored: _,
-            mixings: _,
-        } => {
-            if lent::same(key, card::key(card)) {
-                return Login::Yes;
-            }
-            Login::No
-        }
-    }
+    scrypt::derive(password, card::salt(card), c, key, scratch, allowance)?;
+    Ok(lent::same(key, card::key(card)))
 }
 
-// The derivation's desk, for a card that means m.
-fn unlock(password: &[u8], card: &[u8], m: Meaning, scratch: &mut [u8], allowance: u64) -> Login
-    requires { cardPaper (Good m) ≡ card_of card.now }
+// The derivation's desk, for a card that means m. No card that is read has costs that are refused.
+#[tactic(auto, using(crate::proofs::Desks::read_passes))]
+fn unlock(
+    password: &[u8],
+    card: &[u8],
+    m: Meaning,
+    scratch: &mut [u8],
+    allowance: u64,
+) -> Result<bool, Desk>
+    requires { cardPaper (Ok m) ≡ card_of card.now }
     ensures { (paper result, scratch.new)
         ≡ weighed password.now (salt_of card.now) (key_of card.now) (cost_on card.now) (card_of card.now).key scratch.old allowance }
 {
-    let n = m.key;
-    match Cost::of_exponent(m.exponent, m.r, m.p) {
-        Checked::Good(c) => {
-            let mut room = [0u8; 64];
-            weigh(password, card, c, &mut room[0..n], scratch, allowance)
-        }
-        // No card that is read has such costs.
-        Checked::Bad(flaw) => Login::Refused(Desk::OfDerivation(scrypt::Reason::Costs(flaw))),
-    }
+    let c = Cost::of_exponent(m.exponent, m.r, m.p).map_err(scrypt::Reason::Costs)?;
+    let mut room = [0u8; 64];
+    weigh(password, card, c, &mut room[..m.key], scratch, allowance)
 }
 
 // Checks a login. Card, text, derivation: each desk is asked whole before the next. Refused, the
 // scratch is untouched; after yes or no it is all zero.
-pub fn check(text: &[u8], card: &[u8], scratch: &mut [u8], allowance: u64) -> Login
+#[tactic(auto, using(crate::proofs::Desks::card_refuses, crate::proofs::Desks::text_refuses, crate::proofs::Desks::asks_derivation))]
+pub fn check(text: &[u8], card: &[u8], scratch: &mut [u8], allowance: u64) -> Result<bool, Desk>
     ensures { (paper result, scratch.new) ≡ login_of text.now card.now scratch.old allowance }
 {
-    match card::read(card) {
-        Card::Refused(why) => Login::Refused(Desk::OfCard(why)),
-        Card::Good(m) => match text::read(text) {
-            Text::Refused(why) => Login::Refused(Desk::OfText(why)),
-            Text::Good(_) => unlock(text::password(text), card, m, scratch, allowance),
-        },
-    }
+    let m = card::read(card)?;
+    text::read(text)?;
+    unlock(text::password(text), card, m, scratch, allowance)
 }

@@ -13,11 +13,11 @@ ghost use Rattle.login.specs.Login.{login_of};
 ghost use Rattle.login.specs.Login as Logins;
 ghost use Rattle.rinnamoyle.specs.Host.{derived, card_told, written, text_told, login_told, hosted};
 
-use card::{Card, Written};
+use card::Meaning;
 use cost::{Cost, Exponent, Power};
-use login::{Desk, Login};
-use scrypt::Answer;
-use text::Text;
+use login::Desk;
+use scrypt::Derived;
+use text::Split;
 
 #[repr(C)]
 #[derive(Clone, Copy)]
@@ -65,26 +65,24 @@ pub struct LoginTold {
     pub number: u64,
 }
 
-fn tell_derived(a: Answer) -> DeriveTold
-    ensures { derived result ≡ Derivation.paper a }
-{
-    match a {
-        Answer::Derived {
-            spacing,
-            stored,
-            mixings,
-        } => DeriveTold {
-            number: 0,
-            spacing,
-            stored,
-            mixings,
-        },
-        Answer::Refused(why) => DeriveTold {
-            number: scrypt::reason_number(why),
-            spacing: 0,
-            stored: 0,
-            mixings: 0,
-        },
+impl From<Result<Derived, scrypt::Reason>> for DeriveTold {
+    ghost from_gives = { λ x told. derived told ≡ Derivation.paper x };
+
+    fn from(x: Result<Derived, scrypt::Reason>) -> DeriveTold {
+        match x {
+            Ok(d) => DeriveTold {
+                number: 0,
+                spacing: d.spacing,
+                stored: d.stored,
+                mixings: d.mixings,
+            },
+            Err(why) => DeriveTold {
+                number: why.into(),
+                spacing: 0,
+                stored: 0,
+                mixings: 0,
+            },
+        }
     }
 }
 
@@ -108,33 +106,35 @@ pub extern "C" fn rinnamoyle_derive(
         r,
         p,
     };
-    tell_derived(scrypt::derive(pass, salt, c, key, scratch, allowance))
+    scrypt::derive(pass, salt, c, key, scratch, allowance).into()
 }
 
-fn tell_card(x: Card) -> CardTold
-    ensures { result ≡ card_told (CardPaper.paper x) }
-{
-    match x {
-        Card::Good(m) => CardTold {
-            number: 0,
-            exponent: m.exponent.number(),
-            r: m.r,
-            p: m.p,
-            salt_at: 0,
-            salt_len: m.salt as u64,
-            key_at: m.salt as u64,
-            key_len: m.key as u64,
-        },
-        Card::Refused(why) => CardTold {
-            number: card::reason_number(why),
-            exponent: 0,
-            r: 0,
-            p: 0,
-            salt_at: 0,
-            salt_len: 0,
-            key_at: 0,
-            key_len: 0,
-        },
+impl From<Result<Meaning, card::Reason>> for CardTold {
+    ghost from_gives = { λ x told. told ≡ card_told (CardPaper.paper x) };
+
+    fn from(x: Result<Meaning, card::Reason>) -> CardTold {
+        match x {
+            Ok(m) => CardTold {
+                number: 0,
+                exponent: m.exponent.number(),
+                r: m.r,
+                p: m.p,
+                salt_at: 0,
+                salt_len: m.salt as u64,
+                key_at: m.salt as u64,
+                key_len: m.key as u64,
+            },
+            Err(why) => CardTold {
+                number: why.into(),
+                exponent: 0,
+                r: 0,
+                p: 0,
+                salt_at: 0,
+                salt_len: 0,
+                key_at: 0,
+                key_len: 0,
+            },
+        }
     }
 }
 
@@ -143,21 +143,23 @@ fn tell_card(x: Card) -> CardTold
 pub extern "C" fn rinnamoyle_card_read(card: &[u8]) -> CardTold
     ensures { result ≡ card_told (card_of card.now) }
 {
-    tell_card(card::read(card))
+    card::read(card).into()
 }
 
-fn tell_written(x: Written) -> WriteTold
-    ensures { (room : List ℕ) → written result room ≡ CardPaper.paper_written x room }
-{
-    match x {
-        Written::Length(n) => WriteTold {
-            number: 0,
-            length: n as u64,
-        },
-        Written::Refused(why) => WriteTold {
-            number: card::reason_number(why),
-            length: 0,
-        },
+impl From<Result<usize, card::Reason>> for WriteTold {
+    ghost from_gives = { λ x told. (room : List ℕ) → written told room ≡ CardPaper.paper_written x room };
+
+    fn from(x: Result<usize, card::Reason>) -> WriteTold {
+        match x {
+            Ok(n) => WriteTold {
+                number: 0,
+                length: n as u64,
+            },
+            Err(why) => WriteTold {
+                number: why.into(),
+                length: 0,
+            },
+        }
     }
 }
 
@@ -173,22 +175,23 @@ pub extern "C" fn rinnamoyle_card_write(
 ) -> WriteTold
     ensures { written result room.new ≡ write_of salt.now key.now exponent r p room.old }
 {
-    tell_written(card::write(salt, key, Exponent::new(exponent), r, p, room))
+    card::write(salt, key, Exponent::new(exponent), r, p, room).into()
 }
 
-fn tell_text(x: Text) -> TextTold
+// No `From`: that asks nothing of its caller, and this asks that the place behind the colon is a number.
+fn tell_text(x: Result<Split, text::Reason>) -> TextTold
     requires { (TextPaper.paper x).user < 2 ^ 63 }
     ensures { result ≡ text_told (TextPaper.paper x) }
 {
     match x {
-        Text::Good(s) => TextTold {
+        Ok(s) => TextTold {
             number: 0,
             user_len: s.user as u64,
             password_at: s.user as u64 + 1,
             password_len: s.password as u64,
         },
-        Text::Refused(why) => TextTold {
-            number: text::reason_number(why),
+        Err(why) => TextTold {
+            number: why.into(),
             user_len: 0,
             password_at: 0,
             password_len: 0,
@@ -197,6 +200,7 @@ fn tell_text(x: Text) -> TextTold
 }
 
 // Takes a login text apart.
+#[tactic(auto, using(text::proofs::Splits::within))]
 #[unsafe(no_mangle)]
 pub extern "C" fn rinnamoyle_text_read(text: &[u8]) -> TextTold
     ensures { result ≡ text_told (text_of text.now) }
@@ -214,31 +218,30 @@ fn refused(desk: u64, number: u64) -> LoginTold
     }
 }
 
-fn tell_desk(d: Desk) -> LoginTold
-    ensures { result ≡ login_told (Logins.desk_told d) }
-{
-    match d {
-        Desk::OfCard(why) => refused(1, card::reason_number(why)),
-        Desk::OfText(why) => refused(2, text::reason_number(why)),
-        Desk::OfDerivation(why) => refused(3, scrypt::reason_number(why)),
+impl From<Desk> for LoginTold {
+    ghost from_gives = { λ desk told. told ≡ login_told (Logins.desk_told desk) };
+
+    fn from(desk: Desk) -> LoginTold {
+        match desk {
+            Desk::OfCard(why) => refused(1, why.into()),
+            Desk::OfText(why) => refused(2, why.into()),
+            Desk::OfDerivation(why) => refused(3, why.into()),
+        }
     }
 }
 
-fn tell_login(x: Login) -> LoginTold
-    ensures { result ≡ login_told (Logins.paper x) }
-{
-    match x {
-        Login::Yes => LoginTold {
-            answer: 1,
-            desk: 0,
-            number: 0,
-        },
-        Login::No => LoginTold {
-            answer: 0,
-            desk: 0,
-            number: 0,
-        },
-        Login::Refused(d) => tell_desk(d),
+impl From<Result<bool, Desk>> for LoginTold {
+    ghost from_gives = { λ x told. told ≡ login_told (Logins.paper x) };
+
+    fn from(x: Result<bool, Desk>) -> LoginTold {
+        match x {
+            Ok(yes) => LoginTold {
+                answer: yes as u64,
+                desk: 0,
+                number: 0,
+            },
+            Err(desk) => desk.into(),
+        }
     }
 }
 
@@ -252,5 +255,5 @@ pub extern "C" fn rinnamoyle_login(
 ) -> LoginTold
     ensures { (result, scratch.new) ≡ hosted (login_of text.now card.now scratch.old allowance) }
 {
-    tell_login(login::check(text, card, scratch, allowance))
+    login::check(text, card, scratch, allowance).into()
 }
