@@ -1,4 +1,3 @@
 pub mod Laws
-pub mod Carry
 pub mod Turns
 pub mod Vectors

@@ -7,32 +7,13 @@ ghost use Rattle.lent.specs.Bytes.{part, Apart, xors};
 ghost use Rattle.salsa.specs.Salsa.{words, bytes};
 ghost use Rattle.mixing.specs.BlockMix.{block_mix};
 
-use lent::LittleEndian;
-
-// The words of the pieces at places a and b, one exclusive or the other.
-fn xored(s: &[u8], a: usize, b: usize) -> [u32; 16]
-    requires { (a + 64 ≤ length s.now) × (b + 64 ≤ length s.now) }
-    ensures { result ≡ xors (words 16 (part a 64 s.now)) (words 16 (part b 64 s.now)) }
+// Sixteen words exclusive or sixteen others.
+fn xored(y: [u32; 16], z: [u32; 16]) -> [u32; 16]
+    ensures { result ≡ xors y z }
 {
-    let y = salsa::load(s, a);
-    let z = salsa::load(s, b);
     let mut x = [0u32; 16];
     for j in 0..16 {
         x[j] = y[j] ^ z[j];
-    }
-    x
-}
-
-// Writes the words y at place to, and answers them exclusive or those of the piece at place from, which lies apart.
-// One loop does both: the compiler makes slower code of a loop of stores and a loop of loads.
-fn laid(s: &mut [u8], from: usize, to: usize, y: [u32; 16]) -> [u32; 16]
-    requires { (from + 64 ≤ length s.old) × (to + 64 ≤ length s.old) × Apart 64 from to }
-    ensures { (s.new ≡ sets s.old to (bytes y)) × (result ≡ xors y (words 16 (part from 64 s.old))) }
-{
-    let mut x = [0u32; 16];
-    for j in 0..16 {
-        lent::put::<LittleEndian>(s, to + 4 * j, y[j]);
-        x[j] = y[j] ^ lent::get::<LittleEndian>(s, from + 4 * j);
     }
     x
 }
@@ -54,15 +35,18 @@ fn place(i: usize, r: usize) -> usize
 }
 
 // Writes BlockMix of the block of 2 * r pieces at place from over the block at place to, which lies apart. Each turn
-// carries what goes into its core, and puts what comes out where the RFC's last step wants it.
+// carries what goes into its core, and puts what comes out where the RFC's last step wants it. The store stands before
+// the exclusive or: after it, a block takes a sixteenth more time.
 pub fn block_mix(s: &mut [u8], from: usize, to: usize, r: usize)
     requires { (1 ≤ r) × (r ≤ 64) × (from + 128 * r ≤ length s.old) × (to + 128 * r ≤ length s.old) × Apart (128 * r) from to }
     ensures { s.new ≡ sets s.old to (block_mix r (part from (128 * r) s.old)) }
 {
     let n = 2 * r;
-    let mut x = xored(s, from + 64 * (n - 1), from);
+    let mut x = xored(salsa::load(s, from + 64 * (n - 1)), salsa::load(s, from));
     for i in 0..n {
         let y = salsa::core(x);
-        x = laid(s, from + 64 * after(i, n), to + 64 * place(i, r), y);
+        let z = salsa::load(s, from + 64 * after(i, n));
+        salsa::store(s, to + 64 * place(i, r), y);
+        x = xored(y, z);
     }
 }

