@@ -1,6 +1,6 @@
 -- Laws of FIPS 180-4's definitions: how the schedule grows, and how a hash splits after whole blocks.
 -- Assumes nothing.
-use Rattle.std.proofs.Common.{◌≡◌, ℕ, zero, suc, ◌+◌, ◌-◌, ◌*◌, ◌/◌, ◌%◌, ◌≤◌, ◌<◌, List, [], ◌∷◌, ◌++◌, length, get_or, set, take, drop, refl, sym, ap, ◌∙◌, append_assoc, append-nil, add-one, add-zero, add-suc, zero-add, one-add, arith, length-append, length-drop, length-take-le, take-append-drop, take-take, take-suc, take_all, get_or-take, get_or-set_same}
+use Rattle.std.proofs.Common.{◌≡◌, ℕ, zero, suc, ◌+◌, ◌-◌, ◌*◌, ◌/◌, ◌%◌, ◌≤◌, ◌<◌, List, [], ◌∷◌, ◌++◌, length, get_or, set, take, drop, refl, sym, ap, ◌∙◌, append_assoc, append-nil, add-one, add-zero, add-suc, one-add, arith, length-append, length-drop, length-take-le, take-append-drop, take-take, take-suc, take_all, get_or-take, get_or-set_same}
 use native.Mathlib.Decide.{dec_le}
 use Rattle.std.specs.Int.{w64, to_be_bytes}
 use Rattle.std.specs.List.{fold}
@@ -8,39 +8,34 @@ use Rattle.std.specs.Simd.{first_chunks}
 use borrow.Author.Tests.{lt-ltb, le-ltb}
 use lib.ListN.{length-replicate}
 use lib.Seq.{take-suc-set, take-append-le, sets}
-use Rattle.lent.specs.Bytes.{Bytes, part, zeros, tab, joined}
-use Rattle.lent.specs.Word.{be, of_be}
+use Rattle.lent.specs.Bytes.{Bytes, part, zeros, joined}
+use Rattle.lent.specs.Word.{be}
 use Rattle.lent.proofs.Parts.{part-front, part_back, part-sets_same, sets-front, sets_follow, sets_over_copies, sets_all}
-use Rattle.lent.proofs.Tabs.{length-tab, tab_ext}
-use Rattle.lent.proofs.Arrays.{get_or-tab}
+use Rattle.lent.proofs.Tabs.{length-tab}
 use Rattle.lent.proofs.Bounds.{below_append, below_be}
 use Rattle.lent.proofs.Words.{length-be}
 use Rattle.sha256.specs.Sha256.{M, Wt, H₀, padding, schedule, compress, blocks, absorb, bytes, closed, sha256}
 
--- ---- the schedule: its first sixteen words are the block's, each later one follows from those before and is stored behind them
+-- ---- the schedule, filled in place: its first sixteen words are the block's, each later one follows from those before
 
-schedule-words : (b : List ℕ) (n : ℕ) → n ≤ 16 → schedule b n ≡ tab n (M b)
-unfolding schedule tab
-schedule-words b zero h = refl
-schedule-words b (suc n) h = rw (schedule-words b n (omega arith), lt-ltb n 16 (omega arith))
+module _ (b w : List ℕ) (t : ℕ) (fits : t < length w) (front : take t w ≡ schedule b t) where
+  pub schedule_load : t < 16 → take (t + 1) (set w t (M b t)) ≡ schedule b (t + 1)
+  unfolding schedule
+  schedule_load h = rw (add-one, take-suc-set w t (M b t) fits, front, lt-ltb t 16 h)
 
--- as they are loaded from place 0 on
-pub schedule_loaded : (b : List ℕ) → tab 16 (λ t. of_be (part (0 + 4 * t) 4 b)) ≡ schedule b 16
-schedule_loaded b = tab_ext 16 _ (M b) (λ t h. ap (λ (at : ℕ). of_be (part at 4 b)) (zero-add (4 * t))) ∙ sym (schedule-words b 16 (omega arith))
-
-pub schedule-next : (b w : List ℕ) (t : ℕ) → t < length w → take t w ≡ schedule b t → 16 ≤ t → take (t + 1) (set w t (Wt w t)) ≡ schedule b (t + 1)
-unfolding schedule
-schedule-next b w t fits front h =
-    rw (
-      add-one,
-      take-suc-set w t (Wt w t) fits,
-      ← front,
-      le-ltb t 16 h,
-      get_or-take t w (t - 2) 0 (omega arith),
-      get_or-take t w (t - 7) 0 (omega arith),
-      get_or-take t w (t - 15) 0 (omega arith),
-      get_or-take t w (t - 16) 0 (omega arith),
-    )
+  pub schedule-next : 16 ≤ t → take (t + 1) (set w t (Wt w t)) ≡ schedule b (t + 1)
+  unfolding schedule
+  schedule-next h =
+      rw (
+        add-one,
+        take-suc-set w t (Wt w t) fits,
+        ← front,
+        le-ltb t 16 h,
+        get_or-take t w (t - 2) 0 (omega arith),
+        get_or-take t w (t - 7) 0 (omega arith),
+        get_or-take t w (t - 15) 0 (omega arith),
+        get_or-take t w (t - 16) 0 (omega arith),
+      )
 
 -- for readers: each word of the whole schedule is what section 6.2.2 says
 
@@ -67,22 +62,18 @@ module _ (b : List ℕ) (n t : ℕ) (h : t < n) where
   long : length W ≡ n
   long = length-schedule b n
 
-  -- word t stands where the schedule as far as W_t ends
-  word : get_or W t 0 ≡ get_or (schedule b (t + 1)) t 0
-  word = sym (get_or-take (t + 1) W t 0 (omega arith)) ∙ ap (λ (l : List ℕ). get_or l t 0) (schedule-front b n (t + 1) (omega arith))
+  word : (v : ℕ) → take (t + 1) (set W t v) ≡ schedule b (t + 1) → get_or W t 0 ≡ v
+  word v e =
+      sym (get_or-take (t + 1) W t 0 (omega arith))
+      ∙ ap (λ (l : List ℕ). get_or l t 0) (schedule-front b n (t + 1) (omega arith) ∙ sym e)
+      ∙ get_or-take (t + 1) (set W t v) t 0 (omega arith)
+      ∙ get_or-set_same W t v 0 (omega (arith, long))
 
   pub schedule-first : t < 16 → get_or W t 0 ≡ M b t
-  schedule-first k =
-      word
-      ∙ ap (λ (l : List ℕ). get_or l t 0) (schedule-words b (t + 1) (omega arith))
-      ∙ get_or-tab (t + 1) (M b) t 0 (omega arith)
+  schedule-first k = word (M b t) (schedule_load b W t (omega (arith, long)) (schedule-front b n t (omega arith)) k)
 
   pub schedule_recurs : 16 ≤ t → get_or W t 0 ≡ Wt W t
-  schedule_recurs k =
-      word
-      ∙ ap (λ (l : List ℕ). get_or l t 0) (sym (schedule-next b W t (omega (arith, long)) (schedule-front b n t (omega arith)) k))
-      ∙ get_or-take (t + 1) (set W t (Wt W t)) t 0 (omega arith)
-      ∙ get_or-set_same W t (Wt W t) 0 (omega (arith, long))
+  schedule_recurs k = word (Wt W t) (schedule-next b W t (omega (arith, long)) (schedule-front b n t (omega arith)) k)
 
 -- ---- blocks: those of the first of two strings, and those of both where the first has whole blocks
 
