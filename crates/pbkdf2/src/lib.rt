@@ -101,7 +101,7 @@ impl Saved {
         self.twice(&b[..n + 4])
     }
 
-    // Fills out with the pieces, the first of which has number 1.
+    // Fills out with the pieces, the first of which has number 1. Over the library's `chunks_mut` the proof didn't close: it says nothing of what out holds afterwards.
     fn fill(&self, rest: &[u8], out: &mut [u8])
         requires { (length rest.now < 64) × (length out.old ≤ 32 * (2 ^ 32 - 1)) }
         ensures { out.new ≡ derived (piece self.now.outer self.now.inner self.now.before rest.now) (length out.old) }

@@ -97,14 +97,13 @@ fn round(v: &mut [u32; 8], k: u32, w: u32)
     *v = [t1.wrapping_add(t2), a, b, c, d.wrapping_add(t1), e, f, g];
 }
 
-// The 64 rounds. The table is a local: read from the constant inside the loop it would be laid out anew at each turn.
+// The 64 rounds, each with its constant and its word.
 fn rounds(v: [u32; 8], w: &[u32; 64]) -> [u32; 8]
     ensures { result ≡ rounds 64 w.now v }
 {
-    let k = K;
     let mut y = v;
-    for t in 0..64 {
-        round(&mut y, k[t], w[t]);
+    for (k, x) in K.iter().zip(w) {
+        round(&mut y, *k, *x);
     }
     y
 }
