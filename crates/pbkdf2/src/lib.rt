@@ -71,12 +71,16 @@ impl Saved {
         ensures inner { result.inner ≡ absorb self.inner salt.now }
         ensures before { result.before ≡ self.before + length salt.now / 64 * 64 }
     {
-        let inner = sha256::absorb(self.inner, salt);
-        let outer = self.outer;
+        let Saved {
+            outer,
+            inner,
+            before,
+        } = self;
+        let inner = sha256::absorb(inner, salt);
         Saved {
             outer,
             inner,
-            before: self.before + salt.len() / 64 * 64,
+            before: before + salt.len() / 64 * 64,
         }
     }
 
@@ -90,7 +94,7 @@ impl Saved {
     }
 
     // Piece i of the output, from what is left of the salt.
-    #[tactic(auto, unfolding(crate::specs::Saved::piece))]
+    #[tactic(auto, using(crate::proofs::Laws::numbered), unfolding(crate::specs::Saved::piece))]
     fn piece(&self, rest: &[u8], i: u32) -> [u8; 32]
         requires { length rest.now < 64 }
         ensures { result ≡ piece self.now.outer self.now.inner self.now.before rest.now i }

@@ -19,11 +19,11 @@ use Rattle.sha256.specs.Sha256.{K, M, Wt, H₀, padding, schedule, compress, blo
 -- ---- lists that are walked from the front
 
 -- what comes next is the element at that place
-pub drop_more : (l : List ℕ) (n x : ℕ) (r : List ℕ) → drop n l ≡ x ∷ r → (n < length l) × (get_or l n 0 ≡ x) × (drop (suc n) l ≡ r)
-drop_more [] zero x r h = cc
-drop_more [] (suc n) x r h = cc
-drop_more (y ∷ l) zero x r h = (omega arith, cc, cc)
-drop_more (y ∷ l) (suc n) x r h = let rest = drop_more l n x r h in (omega (arith, rest.0), rest.1, rest.2)
+pub drop_next : (l : List ℕ) (n x : ℕ) (r : List ℕ) → drop n l ≡ x ∷ r → (n < length l) × (get_or l n 0 ≡ x) × (drop (suc n) l ≡ r)
+drop_next [] zero x r h = cc
+drop_next [] (suc n) x r h = cc
+drop_next (y ∷ l) zero x r h = (omega arith, cc, cc)
+drop_next (y ∷ l) (suc n) x r h = let rest = drop_next l n x r h in (omega (arith, rest.0), rest.1, rest.2)
 
 pub length-K : length K ≡ 64
 unfolding K

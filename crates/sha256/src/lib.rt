@@ -157,6 +157,7 @@ fn bytes(h: &[u32; 8]) -> [u8; 32]
 }
 
 // Closes a hash: h is its value after `before` bytes, whole blocks, and s all the bytes after those.
+#[tactic(auto, using(crate::proofs::Laws::absorb_rest), unfolding(crate::specs::Sha256::closed))]
 pub fn close(h: [u32; 8], before: usize, s: &[u8]) -> [u8; 32]
     requires { (before % 64 ≡ 0) × (before + length s.now < 2 ^ 61) }
     ensures { result ≡ closed h s.now (before + length s.now) }
@@ -166,6 +167,7 @@ pub fn close(h: [u32; 8], before: usize, s: &[u8]) -> [u8; 32]
 }
 
 // The hash of s.
+#[tactic(auto, unfolding(crate::specs::Sha256::sha256))]
 pub fn hash(s: &[u8]) -> [u8; 32]
     requires { length s.now < 2 ^ 61 }
     ensures { result ≡ sha256 s.now }

@@ -1,7 +1,7 @@
 -- `sha256::rounds` meets its contract: after t turns the working variables are those after t rounds, and the constants and words from t on are to come.
 use Rattle.std.proofs.Common.{rules, ◌≡◌, ◌-◌, ◌∙◌, inl, inr, ap, sym, length, refl, arith, add-one, length-append, length-drop}
 use Rattle.sha256.specs.Sha256.{K, rounds}
-use Rattle.sha256.proofs.Laws.{drop_more, length-K}
+use Rattle.sha256.proofs.Laws.{drop_next, length-K}
 use Rattle.sha256.proofs.rounds.Goals as goal
 
 pub loop-k-init : goal.loop-k-init
@@ -13,8 +13,8 @@ unfolding rounds
 loop-k-preserved c =
     let i = c.loop-k.invariant in
     let s = c.in-Some.ensures.steps in
-    let k = drop_more K _ _ _ (sym i.constants ∙ s.0) in
-    let w = drop_more c.args.w.now _ _ _ (sym i.words ∙ s.1) in
+    let k = drop_next K _ _ _ (sym i.constants ∙ s.0) in
+    let w = drop_next c.args.w.now _ _ _ (sym i.words ∙ s.1) in
     record {
       most = rw length-append (omega (arith, k.0, length-K));
       constants = rw (length-append, add-one) (sym k.2);

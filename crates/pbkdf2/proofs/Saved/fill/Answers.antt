@@ -2,7 +2,6 @@
 use Rattle.std.proofs.Common.{rules, refl, sym, ap, ◌∙◌, add-one, arith, length}
 use lib.Seq.{sets, take-nil}
 use Rattle.lent.specs.Bytes.{joined}
-use Rattle.pbkdf2.specs.Saved.{piece}
 use Rattle.pbkdf2.proofs.Laws.{length-piece, laid_more, laid_all}
 use Rattle.pbkdf2.proofs.Saved.fill.Goals as goal
 
@@ -12,15 +11,10 @@ loop-i-init c = let out = c.args.out.now in (refl, ap (sets out 0) (sym (take-ni
 
 pub loop-i-preserved : goal.loop-i-preserved
 loop-i-preserved c =
-    let s = c.args.self.now in
-    let f = piece s.outer s.inner s.before c.args.rest.now in
-    let long = length-piece s.outer s.inner s.before c.args.rest.now (search rules) in
     let inv = c.loop-i.invariant in
-    (search rules, rw (c.lay.ensures, c.piece.ensures, inv.0, inv.1, add-one) (laid_more f long c.args.out.now c.loop-i.i (omega (arith, c.div_ceil-i-end.ensures))))
+    (search rules, rw (c.lay.ensures, c.piece.ensures, inv.0, inv.1, add-one) (laid_more _ (length-piece _ _ _ _ (search rules)) c.args.out.now c.loop-i.i (omega (arith, c.div_ceil-i-end.ensures))))
 
 pub returns : goal.returns
 returns c =
-    let s = c.args.self.now in
-    let f = piece s.outer s.inner s.before c.args.rest.now in
-    let long = length-piece s.outer s.inner s.before c.args.rest.now (search rules) in
-    c.loop-i.invariant.1 ∙ laid_all f long c.args.out.now c.loop-i.i (omega (arith, c.div_ceil-i-end.ensures)) (omega (arith, c.div_ceil-i-end.ensures))
+    let count = c.div_ceil-i-end.ensures in
+    c.loop-i.invariant.1 ∙ laid_all _ (length-piece _ _ _ _ (search rules)) c.args.out.now c.loop-i.i (omega (arith, count)) (omega (arith, count))
