@@ -1,28 +1,35 @@
 // SHA-256, HMAC and PBKDF2.
-ghost use Rattle.std.specs.Prelude.{◌≤◌, length};
-
+use crate::rooms::{BEFORE, OUTPUT, Rooms};
+use lines::fault::Fault;
+use lines::fields::{bytes, size};
 use lines::say;
-use std::io;
 
-pub fn hash(rt: &impl Print, m: &[u8]) -> io::Result<bool>
-    requires { length m.now ≤ 1048576 }
-{
+pub fn hash(rt: &impl Print, rooms: &mut Rooms, m: &[u8]) -> Result<(), Fault> {
+    let m = bytes(m, &mut rooms.first)?;
     let mut d = [0u8; 32];
     sha256::hash(m, &mut d, 0);
-    say::answer(rt, b"sha256 ", &d)
+    Ok(say::answer(rt, b"sha256 ", &d)?)
 }
 
-pub fn mac(rt: &impl Print, key: &[u8], text: &[u8]) -> io::Result<bool>
-    requires { (length key.now ≤ 1048576) × (length text.now ≤ 4096) }
-{
+pub fn mac(rt: &impl Print, rooms: &mut Rooms, key: &[u8], text: &[u8]) -> Result<(), Fault> {
+    let key = bytes(key, &mut rooms.first)?;
+    let text = bytes(text, &mut rooms.second)?;
     let mut d = [0u8; 32];
     pbkdf2::hmac(key, text, &mut d, 0);
-    say::answer(rt, b"hmac ", &d)
+    Ok(say::answer(rt, b"hmac ", &d)?)
 }
 
-pub fn derive(rt: &impl Print, pass: &[u8], salt: &[u8], out: &mut [u8]) -> io::Result<bool>
-    requires { (length pass.now ≤ 1048576) × (length salt.now ≤ 4096) × (length out.old ≤ 4096) }
-{
+pub fn derive(
+    rt: &impl Print,
+    rooms: &mut Rooms,
+    pass: &[u8],
+    salt: &[u8],
+    out: &[u8],
+) -> Result<(), Fault> {
+    let pass = bytes(pass, &mut rooms.first)?;
+    let salt = bytes(salt, &mut rooms.second)?;
+    let mut room = [BEFORE; OUTPUT];
+    let out = &mut room[..size(out, OUTPUT)?];
     pbkdf2::pbkdf2(pass, salt, out);
-    say::answer(rt, b"pbkdf2 ", out)
+    Ok(say::answer(rt, b"pbkdf2 ", out)?)
 }

@@ -2,24 +2,19 @@
 // answer, and what became of each lent buffer. Its proof is the same for ten cases or ten thousand.
 #![tactic(auto)]
 
-ghost use Rattle.std.specs.Prelude.{◌<◌, ◌≤◌, length, IfOk};
-
-mod asked;
 mod calls;
 mod desks;
 mod hashes;
 mod mixes;
+mod rooms;
 
-use lines::{fields, say};
+use lines::say;
 use std::io;
 use std::io::Read;
 
 // Empty lines and headings are written as they are.
 fn is_case(line: &[u8]) -> bool {
-    if line.len() == 0 {
-        return false;
-    }
-    line[0] != b'#'
+    line.first().is_some_and(|b| *b != b'#')
 }
 
 fn answer(rt: &impl Print, line: &[u8]) -> io::Result<()> {
@@ -27,46 +22,24 @@ fn answer(rt: &impl Print, line: &[u8]) -> io::Result<()> {
         return calls::answer(rt, line);
     }
     say::word(rt, line)?;
-    say::end(rt)?;
-    Ok(())
+    say::end(rt)
 }
 
-fn answer_all(rt: &impl Print, input: &[u8]) -> io::Result<()>
-    requires { length input.now < 2097153 }
-{
-    let mut at = 0;
-    while at < input.len() {
-        let end = fields::find(input, at, b'\n');
-        answer(rt, &input[at..end])?;
-        at = end + 1;
+// The last line may lack its end.
+fn answer_all(rt: &impl Print, input: &[u8]) -> io::Result<()> {
+    for line in input.split_inclusive(|b| *b == b'\n') {
+        answer(rt, line.strip_suffix(b"\n").unwrap_or(line))?;
     }
     Ok(())
-}
-
-// Fills the room with what there is to read, and says how much of it that was.
-fn read_full(reader: &mut impl Read, room: &mut [u8]) -> io::Result<usize>
-    ensures { IfOk result (λ n. n ≤ length room.new) }
-{
-    let mut n = 0;
-    while n < room.len() {
-        let more = reader.read(&mut room[n..])?;
-        if more == 0 {
-            break;
-        }
-        n += more;
-    }
-    Ok(n)
 }
 
 // The room is one byte longer than the longest input that is taken.
 fn run(rt: &(impl Print + Input), room: &mut [u8; 2097153]) -> io::Result<()> {
-    let mut reader = rt.reader();
-    let n = read_full(&mut reader, room)?;
-    if n == 2097153 {
+    let n = io::copy(&mut rt.reader().take(2097153), &mut room.as_mut_slice())?;
+    if 2097152 < n {
         return say::word(rt, b"input too long\n");
     }
-    let all = &room[..];
-    answer_all(rt, &all[0..n])
+    answer_all(rt, &room[..n as usize])
 }
 
 fn main(rt: HostRuntime) -> io::Result<()> {

@@ -1,173 +1,160 @@
 // Salsa20/8, BlockMix, ROMix and the derivation.
-ghost use Rattle.std.specs.Prelude.{◌≡◌, ◌*◌, ◌%◌, ◌≤◌, length};
-ghost use Rattle.romix.specs.Machine.{Fit, opening};
+ghost use Rattle.std.specs.Prelude.{◌≡◌, ◌+◌, ◌*◌, ◌%◌, ◌≤◌, length, IfOk};
 
+use crate::rooms::{BEFORE, OUTPUT, Rooms, SCRATCH};
 use cost::{Cost, Power};
+use lines::fault::Fault;
+use lines::fields::{bytes, number, size};
 use lines::say;
 use scrypt::Answer;
 use std::io;
 
-pub fn core(rt: &impl Print, x: &[u8]) -> io::Result<bool> {
+pub fn core(rt: &impl Print, rooms: &mut Rooms, x: &[u8]) -> Result<(), Fault> {
+    let x = bytes(x, &mut rooms.first)?;
     if x.len() != 64 {
-        return Ok(false);
+        return Err(Fault::Malformed);
     }
     let mut y = [0u8; 64];
     salsa::store(&mut y, 0, salsa::core(salsa::load(x, 0)));
-    say::answer(rt, b"salsa ", &y)
+    Ok(say::answer(rt, b"salsa ", &y)?)
 }
 
-// r, where the block has its 128·r bytes and twice that fits in the room; else 0.
-fn size(r: u64, block: &[u8], room: usize) -> usize
-    ensures { (result ≤ 32) × (128 * result ≤ length block.now) × (256 * result ≤ room) }
+// The r that a word says, where the block has its 128·r bytes.
+fn width(r: &[u8], block: &[u8]) -> Result<usize, Fault>
+    ensures { IfOk result (λ r. (1 ≤ r) × (r ≤ 32) × (128 * r ≡ length block.now)) }
 {
-    if 32 < r {
-        return 0;
+    let r = number(r)?;
+    if r < 1 || 32 < r || block.len() as u64 != 128 * r {
+        return Err(Fault::Malformed);
     }
-    if block.len() as u64 != 128 * r {
-        return 0;
-    }
-    if (room as u64) < 256 * r {
-        return 0;
-    }
-    r as usize
+    Ok(r as usize)
 }
 
-pub fn block(rt: &impl Print, r: u64, block: &[u8], s: &mut [u8]) -> io::Result<bool> {
-    let r = size(r, block, s.len());
-    if r == 0 {
-        return Ok(false);
-    }
+pub fn block(rt: &impl Print, rooms: &mut Rooms, r: &[u8], block: &[u8]) -> Result<(), Fault> {
+    let block = bytes(block, &mut rooms.first)?;
+    let r = width(r, block)?;
     let half = 128 * r;
     let end = 256 * r;
-    lent::copy(s, 0, &block[0..half]);
-    mixing::block_mix(s, 0, half, r);
-    say::answer(rt, b"blockmix ", &s[half..end])
+    let mut s = [BEFORE; 8192];
+    lent::copy(&mut s, 0, block);
+    mixing::block_mix(&mut s, 0, half, r);
+    Ok(say::answer(rt, b"blockmix ", &s[half..end])?)
 }
 
-fn mix_lane(
-    rt: &impl Print,
+// The costs of one lane with one block in k stored, w of them. Beside those ROMix wants four.
+#[derive(Clone, Copy)]
+struct LaneCosts {
     n: usize,
     r: usize,
     k: usize,
     w: usize,
-    s: &mut [u8],
-) -> io::Result<bool>
-    requires { Fit (opening n r 1 k w) (length s.old) × (n ≤ 1048576) × (k ≤ n) × (128 * r ≤ length s.old) }
-{
-    let made = romix::mix_lanes(n, r, 1, k, w, s, 0xffff_ffff_ffff_ffff);
-    let end = 128 * r;
-    say::number(rt, b"romix mixings ", made)?;
-    say::answer(rt, b" lane ", &s[0..end])
+    ghost thin: { 1 ≤ r },
+    ghost wide: { r ≤ 32 },
+    ghost some: { 1 ≤ k },
+    ghost few: { k ≤ n },
+    ghost small: { n ≤ 1048576 },
+    ghost power: { 4294967296 % n ≡ 0 },
+    ghost held: { n ≤ w * k },
+    ghost room: { (w + 4) * (128 * r) ≤ 65536 },
 }
 
-// How many blocks are stored of n, one in k.
-fn stored(n: usize, k: usize) -> usize
-    requires { (1 ≤ k) × (k ≤ n) × (n ≤ 1048576) }
-    ensures { (n ≤ result * k) × (result ≤ 1048576) }
-{
-    (n - 1) / k + 1
+impl LaneCosts {
+    // N is a power of two where it divides 2^32.
+    fn new(n: u64, r: usize, k: u64) -> Result<LaneCosts, Fault>
+        requires { (1 ≤ r) × (r ≤ 32) }
+    {
+        if k < 1 || n < k || 1048576 < n || 4294967296 % n != 0 {
+            return Err(Fault::Malformed);
+        }
+        let w = n.div_ceil(k) as usize;
+        if SCRATCH / (128 * r) < w + 4 {
+            return Err(Fault::Malformed);
+        }
+        Ok(LaneCosts {
+            n: n as usize,
+            r,
+            k: k as usize,
+            w,
+        })
+    }
+
+    // The number of mixings made.
+    fn mix(self, s: &mut [u8; 65536]) -> u64 {
+        romix::mix_lanes(self.n, self.r, 1, self.k, self.w, s, u64::MAX)
+    }
 }
 
-// Beside the stored blocks ROMix wants four.
-fn store(
-    rt: &impl Print,
-    n: usize,
-    r: usize,
-    k: usize,
-    block: &[u8],
-    s: &mut [u8],
-) -> io::Result<bool>
-    requires { (1 ≤ r) × (r ≤ 32) × (128 * r ≤ length block.now) × (128 * r ≤ length s.old)
-        × (1 ≤ k) × (k ≤ n) × (n ≤ 1048576) × (4294967296 % n ≡ 0) }
-{
-    let w = stored(n, k);
-    let end = 128 * r;
-    if s.len() / end < w + 4 {
-        return Ok(false);
-    }
-    lent::copy(s, 0, &block[0..end]);
-    mix_lane(rt, n, r, k, w, s)
-}
-
-// N is a power of two where it divides 2^32.
-fn space(
-    rt: &impl Print,
-    n: usize,
-    r: usize,
-    k: usize,
-    block: &[u8],
-    s: &mut [u8],
-) -> io::Result<bool>
-    requires { (1 ≤ r) × (r ≤ 32) × (128 * r ≤ length block.now) × (128 * r ≤ length s.old)
-        × (1 ≤ k) × (n ≤ 1048576) }
-{
-    if n < k {
-        return Ok(false);
-    }
-    if 4294967296 % n != 0 {
-        return Ok(false);
-    }
-    store(rt, n, r, k, block, s)
+fn say_lane(rt: &impl Print, mixings: u64, lane: &[u8]) -> io::Result<()> {
+    say::number(rt, b"romix mixings ", mixings)?;
+    say::answer(rt, b" lane ", lane)
 }
 
 pub fn lane(
     rt: &impl Print,
-    n: u64,
-    r: u64,
-    k: u64,
+    rooms: &mut Rooms,
+    n: &[u8],
+    r: &[u8],
+    k: &[u8],
     block: &[u8],
-    s: &mut [u8],
-) -> io::Result<bool> {
-    let r = size(r, block, s.len());
-    if r == 0 {
-        return Ok(false);
-    }
-    if k == 0 {
-        return Ok(false);
-    }
-    if 1048576 < n {
-        return Ok(false);
-    }
-    space(rt, n as usize, r, k as usize, block, s)
+) -> Result<(), Fault> {
+    let block = bytes(block, &mut rooms.first)?;
+    let costs = LaneCosts::new(number(n)?, width(r, block)?, number(k)?)?;
+    let mut s = [BEFORE; SCRATCH];
+    lent::copy(&mut s, 0, block);
+    let mixings = costs.mix(&mut s);
+    Ok(say_lane(rt, mixings, &s[..block.len()])?)
 }
 
-fn say_derived(rt: &impl Print, a: Answer) -> io::Result<()> {
-    match a {
+// The cost that three words say: N, r and p.
+fn cost(words: [&[u8]; 3]) -> Result<Cost, Fault> {
+    let [n, r, p] = words;
+    Ok(Cost {
+        n: Power::new(number(n)?),
+        r: number(r)?,
+        p: number(p)?,
+    })
+}
+
+fn say_derived(rt: &impl Print, a: Answer, key: &[u8], scratch: &[u8]) -> io::Result<()> {
+    let [why, spacing, stored, mixings] = match a {
         Answer::Derived {
             spacing,
             stored,
             mixings,
-        } => say::numbers(
-            rt,
-            b"derive spacing stored mixings",
-            &[0, spacing, stored, mixings],
-        ),
-        Answer::Refused(why) => say::numbers(
-            rt,
-            b"derive spacing stored mixings",
-            &[scrypt::reason_number(why), 0, 0, 0],
-        ),
-    }
+        } => [0, spacing, stored, mixings],
+        Answer::Refused(why) => [scrypt::reason_number(why), 0, 0, 0],
+    };
+    say::numbers(
+        rt,
+        &[
+            ("derive", why),
+            ("spacing", spacing),
+            ("stored", stored),
+            ("mixings", mixings),
+        ],
+    )?;
+    say::buffer(rt, b"key ", key)?;
+    say::buffer(rt, b" scratch ", scratch)?;
+    say::end(rt)
 }
 
 pub fn derive(
     rt: &impl Print,
+    rooms: &mut Rooms,
     pass: &[u8],
     salt: &[u8],
-    n: u64,
-    r: u64,
-    p: u64,
-    key: &mut [u8],
-    scratch: &mut [u8],
-    allowance: u64,
-) -> io::Result<bool> {
-    let c = Cost {
-        n: Power::new(n),
-        r,
-        p,
-    };
-    say_derived(rt, scrypt::derive(pass, salt, c, key, scratch, allowance))?;
-    say::buffer(rt, b"key ", key)?;
-    say::buffer(rt, b" scratch ", scratch)?;
-    say::end(rt)
+    costs: [&[u8]; 3],
+    key: &[u8],
+    scratch: &[u8],
+    allowance: &[u8],
+) -> Result<(), Fault> {
+    let pass = bytes(pass, &mut rooms.first)?;
+    let salt = bytes(salt, &mut rooms.second)?;
+    let costs = cost(costs)?;
+    let mut output = [BEFORE; OUTPUT];
+    let mut room = [BEFORE; SCRATCH];
+    let key = &mut output[..size(key, OUTPUT)?];
+    let scratch = &mut room[..size(scratch, SCRATCH)?];
+    let a = scrypt::derive(pass, salt, costs, key, scratch, number(allowance)?);
+    Ok(say_derived(rt, a, key, scratch)?)
 }
