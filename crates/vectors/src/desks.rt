@@ -1,18 +1,16 @@
 // Cards, texts and logins.
 use crate::rooms::{BEFORE, OUTPUT, Rooms, SCRATCH};
-use card::{Card, Written};
 use cost::Exponent;
 use lines::fault::Fault;
 use lines::fields::{bytes, number, size};
 use lines::say;
-use login::{Desk, Login};
+use login::Desk;
 use std::io;
-use text::Text;
 
 fn say_card(rt: &impl Print, card: &[u8]) -> io::Result<()> {
     let [why, exponent, r, p] = match card::read(card) {
-        Card::Good(m) => [0, m.exponent.number(), m.r, m.p],
-        Card::Refused(why) => [card::reason_number(why), 0, 0, 0],
+        Ok(m) => [0, m.exponent.number(), m.r, m.p],
+        Err(why) => [why.into(), 0, 0, 0],
     };
     say::numbers(
         rt,
@@ -28,10 +26,14 @@ pub fn card(rt: &impl Print, rooms: &mut Rooms, card: &[u8]) -> Result<(), Fault
     Ok(say_card(rt, bytes(card, &mut rooms.first)?)?)
 }
 
-fn say_written(rt: &impl Print, written: Written, room: &[u8]) -> io::Result<()> {
+fn say_written(
+    rt: &impl Print,
+    written: Result<usize, card::Reason>,
+    room: &[u8],
+) -> io::Result<()> {
     let (why, length) = match written {
-        Written::Length(n) => (0, n as u64),
-        Written::Refused(why) => (card::reason_number(why), 0),
+        Ok(n) => (0, n as u64),
+        Err(why) => (why.into(), 0),
     };
     say::numbers(rt, &[("write", why), ("length", length)])?;
     say::buffer(rt, b"room ", room)?;
@@ -58,8 +60,8 @@ pub fn write(
 
 fn say_text(rt: &impl Print, text: &[u8]) -> io::Result<()> {
     let why = match text::read(text) {
-        Text::Good(_) => 0,
-        Text::Refused(why) => text::reason_number(why),
+        Ok(_) => 0,
+        Err(why) => why.into(),
     };
     say::number(rt, b"text ", why)?;
     say::bytes(rt, b" user ", text::user(text))?;
@@ -71,24 +73,20 @@ pub fn text(rt: &impl Print, rooms: &mut Rooms, text: &[u8]) -> Result<(), Fault
     Ok(say_text(rt, bytes(text, &mut rooms.first)?)?)
 }
 
-fn say_desk(rt: &impl Print, d: Desk) -> io::Result<()> {
-    match d {
-        Desk::OfCard(why) => say::number(rt, b"refused card ", card::reason_number(why)),
-        Desk::OfText(why) => say::number(rt, b"refused text ", text::reason_number(why)),
-        Desk::OfDerivation(why) => say::number(
-            rt,
-            b"refused derivation ",
-            scrypt::reason_number(why),
-        ),
+fn say_desk(rt: &impl Print, desk: Desk) -> io::Result<()> {
+    match desk {
+        Desk::OfCard(why) => say::number(rt, b"refused card ", why.into()),
+        Desk::OfText(why) => say::number(rt, b"refused text ", why.into()),
+        Desk::OfDerivation(why) => say::number(rt, b"refused derivation ", why.into()),
     }
 }
 
-fn say_login(rt: &impl Print, x: Login, scratch: &[u8]) -> io::Result<()> {
+fn say_login(rt: &impl Print, x: Result<bool, Desk>, scratch: &[u8]) -> io::Result<()> {
     say::word(rt, b"login ")?;
     match x {
-        Login::Yes => say::word(rt, b"yes"),
-        Login::No => say::word(rt, b"no"),
-        Login::Refused(d) => say_desk(rt, d),
+        Ok(true) => say::word(rt, b"yes"),
+        Ok(false) => say::word(rt, b"no"),
+        Err(desk) => say_desk(rt, desk),
     }?;
     say::buffer(rt, b" scratch ", scratch)?;
     say::end(rt)

@@ -6,17 +6,13 @@ use lines::say;
 
 pub fn hash(rt: &impl Print, rooms: &mut Rooms, m: &[u8]) -> Result<(), Fault> {
     let m = bytes(m, &mut rooms.first)?;
-    let mut d = [0u8; 32];
-    sha256::hash(m, &mut d, 0);
-    Ok(say::answer(rt, b"sha256 ", &d)?)
+    Ok(say::answer(rt, b"sha256 ", &sha256::hash(m))?)
 }
 
 pub fn mac(rt: &impl Print, rooms: &mut Rooms, key: &[u8], text: &[u8]) -> Result<(), Fault> {
     let key = bytes(key, &mut rooms.first)?;
     let text = bytes(text, &mut rooms.second)?;
-    let mut d = [0u8; 32];
-    pbkdf2::hmac(key, text, &mut d, 0);
-    Ok(say::answer(rt, b"hmac ", &d)?)
+    Ok(say::answer(rt, b"hmac ", &pbkdf2::hmac(key, text))?)
 }
 
 pub fn derive(

@@ -6,7 +6,7 @@ use cost::{Cost, Power};
 use lines::fault::Fault;
 use lines::fields::{bytes, number, size};
 use lines::say;
-use scrypt::Answer;
+use scrypt::Derived;
 use std::io;
 
 pub fn core(rt: &impl Print, rooms: &mut Rooms, x: &[u8]) -> Result<(), Fault> {
@@ -115,14 +115,15 @@ fn cost(words: [&[u8]; 3]) -> Result<Cost, Fault> {
     })
 }
 
-fn say_derived(rt: &impl Print, a: Answer, key: &[u8], scratch: &[u8]) -> io::Result<()> {
-    let [why, spacing, stored, mixings] = match a {
-        Answer::Derived {
-            spacing,
-            stored,
-            mixings,
-        } => [0, spacing, stored, mixings],
-        Answer::Refused(why) => [scrypt::reason_number(why), 0, 0, 0],
+fn say_derived(
+    rt: &impl Print,
+    x: Result<Derived, scrypt::Reason>,
+    key: &[u8],
+    scratch: &[u8],
+) -> io::Result<()> {
+    let [why, spacing, stored, mixings] = match x {
+        Ok(d) => [0, d.spacing, d.stored, d.mixings],
+        Err(why) => [why.into(), 0, 0, 0],
     };
     say::numbers(
         rt,
@@ -155,6 +156,6 @@ pub fn derive(
     let mut room = [BEFORE; SCRATCH];
     let key = &mut output[..size(key, OUTPUT)?];
     let scratch = &mut room[..size(scratch, SCRATCH)?];
-    let a = scrypt::derive(pass, salt, costs, key, scratch, number(allowance)?);
-    Ok(say_derived(rt, a, key, scratch)?)
+    let x = scrypt::derive(pass, salt, costs, key, scratch, number(allowance)?);
+    Ok(say_derived(rt, x, key, scratch)?)
 }
