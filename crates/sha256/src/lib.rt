@@ -8,7 +8,7 @@ ghost use Rattle.sha256.specs.Sha256.{Ch, Maj, Σ₀, Σ₁, σ₀, σ₁, H₀,
 
 use lent::BigEndian;
 
-// Section 4.2.2: a table, indexed by the round.
+// Section 4.2.2: a constant for each round.
 const K: [u32; 64] = [
     0x428a2f98, 0x71374491, 0xb5c0fbcf, 0xe9b5dba5, 0x3956c25b, 0x59f111f1, 0x923f82a4, 0xab1c5ed5,
     0xd807aa98, 0x12835b01, 0x243185be, 0x550c7dc3, 0x72be5d74, 0x80deb1fe, 0x9bdc06a7, 0xc19bf174,
@@ -33,6 +33,7 @@ fn maj(x: u32, y: u32, z: u32) -> u32
     (x & y) ^ (x & z) ^ (y & z)
 }
 
+// The four functions Σ and σ, each written out with the standard's own numbers.
 fn big0(x: u32) -> u32
     ensures { result ≡ Σ₀ x }
 {
