@@ -1,10 +1,9 @@
 -- Laws of arrays that a loop fills from their first element on: `Filled` at place 0, and the elements of `tab`.
 -- Assumes nothing.
-use Rattle.std.proofs.Common.{◌≡◌, ℕ, zero, suc, ◌+◌, ◌<◌, ◌≤◌, List, length, get_or, set, sym, ap, ◌∙◌, zero-add, arith}
-use lib.Bits.{bit_xor}
-use Rattle.lent.specs.Bytes.{tab, xors}
+use Rattle.std.proofs.Common.{◌≡◌, ℕ, zero, suc, ◌+◌, ◌<◌, ◌≤◌, List, length, get_or, set, sym, ◌∙◌, zero-add, arith}
+use Rattle.lent.specs.Bytes.{tab}
 use Rattle.lent.proofs.Parts.{sets_all}
-use Rattle.lent.proofs.Tabs.{Filled, filled_more, filled_all, length-tab, tab-front, tab_ext, tab-xors}
+use Rattle.lent.proofs.Tabs.{Filled, filled_more, filled_all, length-tab, tab-front}
 
 -- one more element
 pub filled_next : {l₀ l : List ℕ} {n i : ℕ} {f : ℕ → ℕ} (v : ℕ) → Filled l₀ 0 n f l i → i < n → v ≡ f i → Filled l₀ 0 n f (set l i v) (i + 1)
@@ -19,9 +18,3 @@ module _ {A : Type 0} where
   get_or-tab zero f i d h = absurd (omega arith)
   get_or-tab (suc n) f zero d h = rw tab-front
   get_or-tab (suc n) f (suc i) d h = rw (tab-front n f) (get_or-tab n (λ j. f (suc j)) i d (omega arith))
-
--- exclusive or of a list with what a loop makes, element by element
-pub xors-tab : (xs : List ℕ) (f : ℕ → ℕ) → tab (length xs) (λ i. bit_xor (get_or xs i 0) (f i)) ≡ xors xs (tab (length xs) f)
-xors-tab xs f =
-    tab_ext (length xs) _ _ (λ i h. ap (bit_xor (get_or xs i 0)) (sym (get_or-tab (length xs) f i 0 h)))
-    ∙ tab-xors xs (tab (length xs) f) (sym (length-tab (length xs) f))

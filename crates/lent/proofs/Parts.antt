@@ -1,6 +1,6 @@
 -- Laws of parts and places: `part at n l` reads, `sets l at vs` writes. By induction on what is written, from `lib.Seq`'s laws of one store.
 -- Assumes nothing.
-use Rattle.std.proofs.Common.{◌≡◌, ℕ, zero, suc, ◌+◌, ◌-◌, ◌<◌, ◌≤◌, List, [], ◌∷◌, ◌++◌, length, get_or, take, drop, set, replicate, sym, refl, ap, ◌∙◌, append_assoc, append-nil, add-zero, add-suc, suc-add, zero-add, arith, length-append, length-drop, length-set, take-append-drop, drop_of_length-le, length-take-le, get_or-drop, take_all, get_or-set_other, get_or-take, take-take, drop-drop, take_at, drop-set-lt, take-add, drop_at, set-set}
+use Rattle.std.proofs.Common.{◌≡◌, ℕ, zero, suc, ◌+◌, ◌-◌, ◌<◌, ◌≤◌, List, [], ◌∷◌, ◌++◌, length, get_or, take, drop, set, replicate, sym, refl, ap, ◌∙◌, append_assoc, append-nil, add-zero, add-suc, suc-add, zero-add, arith, length-append, length-drop, length-set, take-append-drop, drop_of_length-le, length-take-le, get_or-drop, get_or-set_other, get_or-take, take-take, drop-drop, take_at, drop-set-lt, take-add, drop_at, set-set}
 use native.Mathlib.Decide.{dec_le}
 use lib.ListN.{length-replicate, replicate-append-replicate}
 use Rattle.std.proofs.lemmas.Slice.{put_mid-paste}
@@ -16,13 +16,6 @@ module _ {A : Type 0} where
 
   pub get_or-part : (at n : ℕ) (l : List A) (i : ℕ) (d : A) → i < n → get_or (part at n l) i d ≡ get_or l (at + i) d
   get_or-part at n l i d h = get_or-take n (drop at l) i d h ∙ get_or-drop at l i d
-
-  pub part_all : (l : List A) → part 0 (length l) l ≡ l
-  part_all l = take_all (length l) l (omega arith)
-
-  -- a part to the end: what `&l[at..]` lends
-  pub part_rest : (at : ℕ) (l : List A) → part at (length l - at) l ≡ drop at l
-  part_rest at l = take_all (length l - at) (drop at l) (simp length-drop (omega arith))
 
   part-take : (a n m : ℕ) (l : List A) → a + n ≤ m → part a n (take m l) ≡ part a n l
   part-take zero n m l h = take-take n m l (omega arith)
@@ -142,10 +135,6 @@ module _ {A : Type 0} where
   sets_over_copies n a xs h =
       let all : length (xs ++ replicate (n - length xs) a) ≡ length (replicate n a) = rw (length-append, length-replicate, length-replicate) (omega arith) in
       sets_follow n (n - length xs) a xs (omega arith) ∙ sets_all (replicate n a) (xs ++ replicate (n - length xs) a) all
-
-  -- what a callee that was lent the part from a to e has left, said of the whole
-  pub sets_lent : (l vs : List A) (i : ℕ) → i + length vs ≤ length l → take i l ++ (vs ++ drop (i + length vs) l) ≡ sets l i vs
-  sets_lent l vs i h = rw (sets-eq vs l i h, append_assoc)
 
   -- what the library's copy of a list over a place has left, and what a callee has left that was lent that place
   pub paste-sets : (l : List A) (i : ℕ) (vs : List A) (n : ℕ) → n ≤ length vs → i + n ≤ length l → paste l i vs n ≡ sets l i (take n vs)

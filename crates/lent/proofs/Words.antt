@@ -5,8 +5,8 @@ use native.Mathlib.Nat.{div-div-eq-div-mul, one-le-pow}
 use lib.Arith.{mod-mul}
 use lib.Seq.{take-length}
 use Rattle.lent.specs.Bytes.{Bytes, part, tab}
-use Rattle.std.specs.Int.{w32, rotate_left, rotate_right}
-use Rattle.lent.specs.Word.{rotl, rotr, le, be, of_le}
+use Rattle.std.specs.Int.{w32, rotate_left}
+use Rattle.lent.specs.Word.{rotl, le, be, of_le}
 use Rattle.lent.proofs.Tabs.{tab-part}
 
 pub length-le : (n x : ℕ) → length (le n x) ≡ n
@@ -57,13 +57,7 @@ be-split m (suc n) x =
     let above : x / (256 ^ n * 256) ≡ x / 256 / 256 ^ n = ap (λ (k : ℕ). x / k) (mul_comm (256 ^ n) 256) ∙ sym (div-div-eq-div-mul x 256 (256 ^ n)) in
     rw (add-suc, pow-suc 256 n, digits, high, low, above, be-split m n (x / 256), append_assoc)
 
--- two bytes, and four, one by one
-pub part_two : (l : List ℕ) (at : ℕ) → at + 2 ≤ length l → part at 2 l ≡ get_or l at 0 ∷ get_or l (at + 1) 0 ∷ []
-unfolding tab
-part_two l at h =
-    let room : 2 ≤ length (drop at l) = simp length-drop (omega arith) in
-    sym (tab-part at 2 l 0 room) ∙ ap (λ (k : ℕ). get_or l k 0 ∷ get_or l (at + 1) 0 ∷ []) (add-zero at)
-
+-- four bytes, one by one
 pub part_four : (l : List ℕ) (at : ℕ) → at + 4 ≤ length l → part at 4 l ≡ get_or l at 0 ∷ get_or l (at + 1) 0 ∷ get_or l (at + 2) 0 ∷ get_or l (at + 3) 0 ∷ []
 unfolding tab
 part_four l at h =
@@ -80,9 +74,6 @@ of_le-append (x ∷ a) b = rw (of_le-append a b, pow-suc 256 (length a)) (omega 
 pub four : (l : List ℕ) → length l ≡ 4 → l ≡ get_or l 0 0 ∷ get_or l 1 0 ∷ get_or l 2 0 ∷ get_or l 3 0 ∷ []
 four l h = sym (rw h at (take-length l)) ∙ part_four l 0 (omega arith)
 
--- the library's rotations are the paper's, by fewer bits than the word has
+-- the library's rotation is the paper's, by fewer bits than the word has
 pub rotl_is : (n x : ℕ) → 0 < n → n < 32 → rotate_left w32 x n ≡ rotl n x
 rotl_is n x h k = let e : n % 32 ≡ n = omega arith in let d : (32 - n) % 32 ≡ 32 - n = omega arith in rw (e, d) refl
-
-pub rotr_is : (n x : ℕ) → 0 < n → n < 32 → rotate_right w32 x n ≡ rotr n x
-rotr_is n x h k = let e : n % 32 ≡ n = omega arith in let d : (32 - n) % 32 ≡ 32 - n = omega arith in rw (e, d) refl
