@@ -1,59 +1,34 @@
-// What is written to standard output.
-use std::io;
+// What is written to standard output of bytes.
+use std::fmt;
 
-pub fn word(rt: &impl Print, s: &[u8]) -> io::Result<()> {
-    rt.write_all(s)
-}
+// Bytes in lower hexadecimal, and a dash for none.
+#[derive(Clone, Copy)]
+pub struct Hex<'a>(pub &'a [u8]);
 
-// The end of an answer.
-pub fn end(rt: &impl Print) -> io::Result<()> {
-    word(rt, b"\n")
-}
-
-// A label, and a number behind it.
-pub fn number(rt: &impl Print, label: &[u8], n: u64) -> io::Result<()> {
-    word(rt, label)?;
-    print!(rt; "{n}")
-}
-
-fn hex(rt: &impl Print, s: &[u8]) -> io::Result<()> {
-    for b in s {
-        print!(rt; "{b:02x}")?;
+impl fmt::Display for Hex<'_> {
+    fn fmt<W: fmt::Write>(&self, f: &mut fmt::Formatter<W>) -> fmt::Result {
+        if self.0.is_empty() {
+            return f.write_str("-");
+        }
+        for b in self.0 {
+            write!(f, "{b:02x}")?;
+        }
+        Ok(())
     }
-    Ok(())
 }
 
-// A label, and bytes behind it.
-pub fn bytes(rt: &impl Print, label: &[u8], s: &[u8]) -> io::Result<()> {
-    word(rt, label)?;
-    if s.is_empty() {
-        return word(rt, b"-");
-    }
-    hex(rt, s)
-}
+// What became of a buffer that was full of a5.
+#[derive(Clone, Copy)]
+pub struct Left<'a>(pub &'a [u8]);
 
-// A label, and what became of a buffer that was full of a5.
-pub fn buffer(rt: &impl Print, label: &[u8], s: &[u8]) -> io::Result<()> {
-    word(rt, label)?;
-    if s.iter().all(|b| *b == 0) {
-        return word(rt, b"zero");
+impl fmt::Display for Left<'_> {
+    fn fmt<W: fmt::Write>(&self, f: &mut fmt::Formatter<W>) -> fmt::Result {
+        if self.0.iter().all(|b| *b == 0) {
+            f.write_str("zero")
+        } else if self.0.iter().all(|b| *b == 0xa5) {
+            f.write_str("kept")
+        } else {
+            Hex(self.0).fmt(f)
+        }
     }
-    if s.iter().all(|b| *b == 0xa5) {
-        return word(rt, b"kept");
-    }
-    hex(rt, s)
-}
-
-// A whole answer of a label and bytes.
-pub fn answer(rt: &impl Print, label: &[u8], s: &[u8]) -> io::Result<()> {
-    bytes(rt, label, s)?;
-    end(rt)
-}
-
-// Labels and their numbers, a space behind each.
-pub fn numbers(rt: &impl Print, labelled: &[(&str, u64)]) -> io::Result<()> {
-    for (label, n) in labelled {
-        print!(rt; "{label} {n} ")?;
-    }
-    Ok(())
 }

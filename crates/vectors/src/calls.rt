@@ -2,7 +2,6 @@
 use crate::rooms::Rooms;
 use crate::{desks, hashes, mixes};
 use lines::fault::Fault;
-use lines::say;
 use std::io;
 
 // Runs the call that the words are: its name, and as many fields as it has.
@@ -48,7 +47,7 @@ fn run_line(rt: &impl Print, line: &[u8]) -> Result<(), Fault> {
 pub fn answer(rt: &impl Print, line: &[u8]) -> io::Result<()> {
     match run_line(rt, line) {
         Ok(()) => Ok(()),
-        Err(Fault::Malformed) => say::word(rt, b"malformed\n"),
+        Err(Fault::Malformed) => println!(rt; "malformed"),
         Err(Fault::Io(e)) => Err(e),
     }
 }

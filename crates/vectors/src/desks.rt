@@ -3,7 +3,7 @@ use crate::rooms::{BEFORE, OUTPUT, Rooms, SCRATCH};
 use cost::Exponent;
 use lines::fault::Fault;
 use lines::fields::{bytes, number, size};
-use lines::say;
+use lines::say::{Hex, Left};
 use login::Desk;
 use std::io;
 
@@ -12,14 +12,10 @@ fn say_card(rt: &impl Print, card: &[u8]) -> io::Result<()> {
         Ok(m) => [0, m.exponent.number(), m.r, m.p],
         Err(why) => [why.into(), 0, 0, 0],
     };
-    say::numbers(
-        rt,
-        &[("card", why), ("exponent", exponent), ("r", r), ("p", p)],
-    )?;
-    say::bytes(rt, b"salt ", card::salt(card))?;
-    say::bytes(rt, b" key ", card::key(card))?;
-    say::number(rt, b" claims ", card::claimed(card) as u64)?;
-    say::end(rt)
+    let salt = Hex(card::salt(card));
+    let key = Hex(card::key(card));
+    let claims = card::claimed(card);
+    println!(rt; "card {why} exponent {exponent} r {r} p {p} salt {salt} key {key} claims {claims}")
 }
 
 pub fn card(rt: &impl Print, rooms: &mut Rooms, card: &[u8]) -> Result<(), Fault> {
@@ -35,9 +31,7 @@ fn say_written(
         Ok(n) => (0, n as u64),
         Err(why) => (why.into(), 0),
     };
-    say::numbers(rt, &[("write", why), ("length", length)])?;
-    say::buffer(rt, b"room ", room)?;
-    say::end(rt)
+    println!(rt; "write {why} length {length} room {}", Left(room))
 }
 
 pub fn write(
@@ -63,10 +57,9 @@ fn say_text(rt: &impl Print, text: &[u8]) -> io::Result<()> {
         Ok(_) => 0,
         Err(why) => why.into(),
     };
-    say::number(rt, b"text ", why)?;
-    say::bytes(rt, b" user ", text::user(text))?;
-    say::bytes(rt, b" password ", text::password(text))?;
-    say::end(rt)
+    let user = Hex(text::user(text));
+    let password = Hex(text::password(text));
+    println!(rt; "text {why} user {user} password {password}")
 }
 
 pub fn text(rt: &impl Print, rooms: &mut Rooms, text: &[u8]) -> Result<(), Fault> {
@@ -74,22 +67,21 @@ pub fn text(rt: &impl Print, rooms: &mut Rooms, text: &[u8]) -> Result<(), Fault
 }
 
 fn say_desk(rt: &impl Print, desk: Desk) -> io::Result<()> {
-    match desk {
-        Desk::OfCard(why) => say::number(rt, b"refused card ", why.into()),
-        Desk::OfText(why) => say::number(rt, b"refused text ", why.into()),
-        Desk::OfDerivation(why) => say::number(rt, b"refused derivation ", why.into()),
-    }
+    let (name, why) = match desk {
+        Desk::OfCard(why) => ("card", u64::from(why)),
+        Desk::OfText(why) => ("text", u64::from(why)),
+        Desk::OfDerivation(why) => ("derivation", u64::from(why)),
+    };
+    print!(rt; "login refused {name} {why}")
 }
 
 fn say_login(rt: &impl Print, x: Result<bool, Desk>, scratch: &[u8]) -> io::Result<()> {
-    say::word(rt, b"login ")?;
     match x {
-        Ok(true) => say::word(rt, b"yes"),
-        Ok(false) => say::word(rt, b"no"),
+        Ok(true) => print!(rt; "login yes"),
+        Ok(false) => print!(rt; "login no"),
         Err(desk) => say_desk(rt, desk),
     }?;
-    say::buffer(rt, b" scratch ", scratch)?;
-    say::end(rt)
+    println!(rt; " scratch {}", Left(scratch))
 }
 
 pub fn login(

@@ -2,17 +2,17 @@
 use crate::rooms::{BEFORE, OUTPUT, Rooms};
 use lines::fault::Fault;
 use lines::fields::{bytes, size};
-use lines::say;
+use lines::say::Hex;
 
 pub fn hash(rt: &impl Print, rooms: &mut Rooms, m: &[u8]) -> Result<(), Fault> {
     let m = bytes(m, &mut rooms.first)?;
-    Ok(say::answer(rt, b"sha256 ", &sha256::hash(m))?)
+    Ok(println!(rt; "sha256 {}", Hex(&sha256::hash(m)))?)
 }
 
 pub fn mac(rt: &impl Print, rooms: &mut Rooms, key: &[u8], text: &[u8]) -> Result<(), Fault> {
     let key = bytes(key, &mut rooms.first)?;
     let text = bytes(text, &mut rooms.second)?;
-    Ok(say::answer(rt, b"hmac ", &pbkdf2::hmac(key, text))?)
+    Ok(println!(rt; "hmac {}", Hex(&pbkdf2::hmac(key, text)))?)
 }
 
 pub fn derive(
@@ -27,5 +27,5 @@ pub fn derive(
     let mut room = [BEFORE; OUTPUT];
     let out = &mut room[..size(out, OUTPUT)?];
     pbkdf2::pbkdf2(pass, salt, out);
-    Ok(say::answer(rt, b"pbkdf2 ", out)?)
+    Ok(println!(rt; "pbkdf2 {}", Hex(out))?)
 }

@@ -8,7 +8,6 @@ mod hashes;
 mod mixes;
 mod rooms;
 
-use lines::say;
 use std::io;
 use std::io::Read;
 
@@ -21,8 +20,8 @@ fn answer(rt: &impl Print, line: &[u8]) -> io::Result<()> {
     if is_case(line) {
         return calls::answer(rt, line);
     }
-    say::word(rt, line)?;
-    say::end(rt)
+    rt.write_all(line)?;
+    println!(rt;)
 }
 
 // The last line may lack its end.
@@ -37,7 +36,7 @@ fn answer_all(rt: &impl Print, input: &[u8]) -> io::Result<()> {
 fn run(rt: &(impl Print + Input), room: &mut [u8; 2097153]) -> io::Result<()> {
     let n = io::copy(&mut rt.reader().take(2097153), &mut room.as_mut_slice())?;
     if 2097152 < n {
-        return say::word(rt, b"input too long\n");
+        return println!(rt; "input too long");
     }
     answer_all(rt, &room[..n as usize])
 }

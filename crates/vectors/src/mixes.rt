@@ -5,7 +5,7 @@ use crate::rooms::{BEFORE, OUTPUT, Rooms, SCRATCH};
 use cost::{Cost, Power};
 use lines::fault::Fault;
 use lines::fields::{bytes, number, size};
-use lines::say;
+use lines::say::{Hex, Left};
 use scrypt::Derived;
 use std::io;
 
@@ -16,7 +16,7 @@ pub fn core(rt: &impl Print, rooms: &mut Rooms, x: &[u8]) -> Result<(), Fault> {
     }
     let mut y = [0u8; 64];
     salsa::store(&mut y, 0, salsa::core(salsa::load(x, 0)));
-    Ok(say::answer(rt, b"salsa ", &y)?)
+    Ok(println!(rt; "salsa {}", Hex(&y))?)
 }
 
 // The r that a word says, where the block has its 128·r bytes.
@@ -38,7 +38,7 @@ pub fn block(rt: &impl Print, rooms: &mut Rooms, r: &[u8], block: &[u8]) -> Resu
     let mut s = [BEFORE; 8192];
     lent::copy(&mut s, 0, block);
     mixing::block_mix(&mut s, 0, half, r);
-    Ok(say::answer(rt, b"blockmix ", &s[half..end])?)
+    Ok(println!(rt; "blockmix {}", Hex(&s[half..end]))?)
 }
 
 // The costs of one lane with one block in k stored, w of them. Beside those ROMix wants four.
@@ -84,11 +84,6 @@ impl LaneCosts {
     }
 }
 
-fn say_lane(rt: &impl Print, mixings: u64, lane: &[u8]) -> io::Result<()> {
-    say::number(rt, b"romix mixings ", mixings)?;
-    say::answer(rt, b" lane ", lane)
-}
-
 pub fn lane(
     rt: &impl Print,
     rooms: &mut Rooms,
@@ -102,7 +97,7 @@ pub fn lane(
     let mut s = [BEFORE; SCRATCH];
     lent::copy(&mut s, 0, block);
     let mixings = costs.mix(&mut s);
-    Ok(say_lane(rt, mixings, &s[..block.len()])?)
+    Ok(println!(rt; "romix mixings {mixings} lane {}", Hex(&s[..block.len()]))?)
 }
 
 // The cost that three words say: N, r and p.
@@ -125,18 +120,11 @@ fn say_derived(
         Ok(d) => [0, d.spacing, d.stored, d.mixings],
         Err(why) => [why.into(), 0, 0, 0],
     };
-    say::numbers(
-        rt,
-        &[
-            ("derive", why),
-            ("spacing", spacing),
-            ("stored", stored),
-            ("mixings", mixings),
-        ],
-    )?;
-    say::buffer(rt, b"key ", key)?;
-    say::buffer(rt, b" scratch ", scratch)?;
-    say::end(rt)
+    println!(rt;
+        "derive {why} spacing {spacing} stored {stored} mixings {mixings} key {} scratch {}",
+        Left(key),
+        Left(scratch)
+    )
 }
 
 pub fn derive(
