@@ -170,7 +170,8 @@ pub fn key(card: &[u8]) -> &[u8]
 }
 
 // How long the card at the end of these bytes says it is, and 0 where they hold no trailer. Whoever
-// keeps cards one behind the other finds the last by it, and reads that part alone.
+// keeps cards one behind the other finds the last by it, and reads that part alone. 0 and no Option, as
+// `claimed_of` of specs/Layout.antt has it.
 #[tactic(auto, unfolding(crate::specs::Layout::claimed_of, crate::specs::Layout::trailer_in))]
 pub fn claimed(bytes: &[u8]) -> usize
     ensures { result ≡ claimed_of bytes.now }

@@ -1,6 +1,7 @@
 // Lent bytes: reading a part, writing into a place, and words in bytes. Every function says what the
 // whole lent slice is when it returns, as one definition of what it was, so that callers compose
-// them by rewriting and nothing else can have changed.
+// them by rewriting and nothing else can have changed. So a place stands beside the slice, and no part
+// of it is lent in its stead: what is said of a part says nothing of the rest.
 #![tactic(auto)]
 
 ghost use Rattle.std.specs.Prelude.{◌≡◌, ◌+◌, ◌-◌, ◌*◌, ◌++◌, ◌^◌, ◌<◌, ◌≤◌, ℕ, List, length, get_or};
@@ -49,7 +50,8 @@ pub fn wipe_all(s: &mut [u8])
     s.fill(0);
 }
 
-// Whether a and b hold the same bytes. Every pair is looked at, wherever the first difference lies.
+// Whether a and b hold the same bytes. Every pair is looked at, wherever the first difference lies: `==`
+// may stop there.
 pub fn same(a: &[u8], b: &[u8]) -> bool
     ensures { result ≡ eqs a.now b.now }
 {

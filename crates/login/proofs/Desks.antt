@@ -31,7 +31,7 @@ use Rattle.text.specs.declared.Reason as TextReason
 use Rattle.text.specs.declared.Reason.TheVariants.{NoColon, UserLength}
 use Rattle.text.specs.Login as Texts
 use Rattle.text.specs.Paper as TextPaper
-use Rattle.login.specs.Login.{Told, paper, yea, nay, refused_by, cost_on, compared, weighed, login_of}
+use Rattle.login.specs.Login.{Told, found, yea, nay, refused_by, cost_on, compared, weighed, login_of}
 
 -- yes or no by the key, or the derivation's refusal
 abbrev outcome : List ℕ → Derivation.Told × (List ℕ × List ℕ) → Told × List ℕ
@@ -69,12 +69,12 @@ module _ (P s S K : List ℕ) (c : Cost) (key scratch : List ℕ) (allowance : �
       here ∙ told (Err why) e met
 
   pub weighed_answered : (d : Derived) (b : Bool) (k : List ℕ) → s ≡ S → k ≡ K → (Derivation.paper (Ok d), (key', scratch')) ≡ derivation P s c key scratch allowance
-      → b ≡ eqs key' k → (paper (Ok b), scratch') ≡ weighed P S K c (length key) scratch allowance
+      → b ≡ eqs key' k → (found (Ok b), scratch') ≡ weighed P S K c (length key) scratch allowance
   weighed_answered d b k e f met same =
-      let here : (paper (Ok b), scratch') ≡ outcome K (Derivation.paper (Ok d), (key', scratch')) = verdict b ∙ rw (same, f) refl in
+      let here : (found (Ok b), scratch') ≡ outcome K (Derivation.paper (Ok d), (key', scratch')) = verdict b ∙ rw (same, f) refl in
       here ∙ told (Ok d) e met
     where
-      verdict : (v : Bool) → ◌≡◌ {A = Told × List ℕ} (paper (Ok v), scratch') (pick v yea nay, scratch')
+      verdict : (v : Bool) → ◌≡◌ {A = Told × List ℕ} (found (Ok v), scratch') (pick v yea nay, scratch')
       verdict true = refl
       verdict false = refl
 

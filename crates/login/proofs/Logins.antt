@@ -1,7 +1,7 @@
 -- What is said of a login as a whole: no second answer, no part for the bytes that lay in the scratch, and every answer told apart. Assumes nothing.
 use mathlib.Core.Path.{◌≡◌, refl, sym, ap, ◌∙◌}
 use mathlib.Core.List.{List}
-use Rattle.std.specs.Prelude.{Bool, true, false, Result, Ok, Err}
+use Rattle.std.specs.Prelude.{Result, Ok, Err}
 use Prim.Native.Nat.{ℕ}
 use native.Mathlib.Omega.{arith}
 use lib.Dec.{eqb}
@@ -22,6 +22,8 @@ use Rattle.text.specs.Paper as TextPaper
 use Rattle.text.specs.Login as Texts
 use Rattle.login.specs.declared.Desk.{Desk}
 use Rattle.login.specs.declared.Desk.TheVariants.{OfCard, OfText, OfDerivation}
+use Rattle.login.specs.declared.Login.{Login}
+use Rattle.login.specs.declared.Login.TheVariants.{Yes, No as Nay, Refused}
 use Rattle.login.specs.Login.{Told, paper, refused_by, cost_on, compared, weighed, login_of}
 
 -- two outcomes that meet the promise are one
@@ -68,7 +70,7 @@ derivations_apart a b e =
     let same : refused a ≡ refused b = told_apart (Err a) (Err b) (ap (λ (n : ℕ). record { number = n; spacing = 0; stored = 0; mixings = 0 }) e) in
     cc
 
-desks_apart : (d e : Desk) → paper (Err d) ≡ paper (Err e) → d ≡ e
+desks_apart : (d e : Desk) → paper (Refused d) ≡ paper (Refused e) → d ≡ e
 desks_apart (OfCard a) (OfCard b) p = ap OfCard (reasons_apart (ap (λ (t : Told). t.number) p))
 desks_apart (OfText a) (OfText b) p = ap OfText (texts_apart a b (ap (λ (t : Told). t.number) p))
 desks_apart (OfDerivation a) (OfDerivation b) p = ap OfDerivation (derivations_apart a b (ap (λ (t : Told). t.number) p))
@@ -79,18 +81,18 @@ desks_apart (OfText a) (OfDerivation b) p = absurd (omega (arith, ap (λ (t : To
 desks_apart (OfDerivation a) (OfCard b) p = absurd (omega (arith, ap (λ (t : Told). t.desk) p))
 desks_apart (OfDerivation a) (OfText b) p = absurd (omega (arith, ap (λ (t : Told). t.desk) p))
 
-refusal : (d : Desk) → (paper (Err d)).answer ≡ 2
+refusal : (d : Desk) → (paper (Refused d)).answer ≡ 2
 refusal (OfCard why) = refl
 refusal (OfText why) = refl
 refusal (OfDerivation why) = refl
 
-pub answers_apart : (x y : Result Bool Desk) → paper x ≡ paper y → x ≡ y
-answers_apart (Ok true) (Ok true) p = refl
-answers_apart (Ok false) (Ok false) p = refl
-answers_apart (Err d) (Err e) p = ap Err (desks_apart d e p)
-answers_apart (Ok true) (Ok false) p = absurd (omega (arith, ap (λ (t : Told). t.answer) p))
-answers_apart (Ok false) (Ok true) p = absurd (omega (arith, ap (λ (t : Told). t.answer) p))
-answers_apart (Ok true) (Err d) p = absurd (omega (arith, ap (λ (t : Told). t.answer) p, refusal d))
-answers_apart (Ok false) (Err d) p = absurd (omega (arith, ap (λ (t : Told). t.answer) p, refusal d))
-answers_apart (Err d) (Ok true) p = absurd (omega (arith, ap (λ (t : Told). t.answer) p, refusal d))
-answers_apart (Err d) (Ok false) p = absurd (omega (arith, ap (λ (t : Told). t.answer) p, refusal d))
+pub answers_apart : (x y : Login) → paper x ≡ paper y → x ≡ y
+answers_apart Yes Yes p = refl
+answers_apart Nay Nay p = refl
+answers_apart (Refused d) (Refused e) p = ap Refused (desks_apart d e p)
+answers_apart Yes Nay p = absurd (omega (arith, ap (λ (t : Told). t.answer) p))
+answers_apart Nay Yes p = absurd (omega (arith, ap (λ (t : Told). t.answer) p))
+answers_apart Yes (Refused d) p = absurd (omega (arith, ap (λ (t : Told). t.answer) p, refusal d))
+answers_apart Nay (Refused d) p = absurd (omega (arith, ap (λ (t : Told). t.answer) p, refusal d))
+answers_apart (Refused d) Yes p = absurd (omega (arith, ap (λ (t : Told). t.answer) p, refusal d))
+answers_apart (Refused d) Nay p = absurd (omega (arith, ap (λ (t : Told). t.answer) p, refusal d))

@@ -13,6 +13,8 @@ use Rattle.text.specs.Login as Texts
 use Rattle.text.specs.Paper as TextPaper
 use Rattle.login.specs.declared.Desk.{Desk}
 use Rattle.login.specs.declared.Desk.TheVariants.{OfCard, OfText, OfDerivation}
+use Rattle.login.specs.declared.Login.{Login}
+use Rattle.login.specs.declared.Login.TheVariants.{Yes, No, Refused}
 
 -- An answer in the paper's numbers: 0 no, 1 yes, 2 refused; the desk that refused, 1 card, 2 text, 3 derivation, and its number; both 0 for yes and no.
 pub record Told : Type 0 where
@@ -34,10 +36,16 @@ desk_told (OfCard why) = refused_by 1 (CardPaper.reason_no why)
 desk_told (OfText why) = refused_by 2 (TextPaper.reason_no why)
 desk_told (OfDerivation why) = refused_by 3 (Derive.reason_no why)
 
-abbrev pub paper : Result Bool Desk → Told
-paper (Ok true) = yea
-paper (Ok false) = nay
-paper (Err desk) = desk_told desk
+abbrev pub paper : Login → Told
+paper Yes = yea
+paper No = nay
+paper (Refused desk) = desk_told desk
+
+-- and before it is an answer: whether the keys are the same, or the desk that refused
+abbrev pub found : Result Bool Desk → Told
+found (Ok true) = yea
+found (Ok false) = nay
+found (Err desk) = desk_told desk
 
 -- ---- what a login answers, and what it leaves of the scratch
 

@@ -5,7 +5,7 @@
 ghost use Rattle.std.specs.Prelude.{◌≡◌, Ok, length};
 ghost use Rattle.card.specs.Refusals.{read_of as card_of, salt_of, key_of};
 ghost use Rattle.card.specs.Paper.{paper as cardPaper};
-ghost use Rattle.login.specs.Login.{paper, cost_on, weighed, login_of};
+ghost use Rattle.login.specs.Login.{paper, found, cost_on, weighed, login_of};
 
 use card::Meaning;
 use cost::Cost;
@@ -48,6 +48,14 @@ impl From<scrypt::Reason> for Desk {
     }
 }
 
+// Three cases, the form that document 01 names (docs/DECISIONS.md), and so no Result.
+#[derive(Clone, Copy, Debug, PartialEq, Eq)]
+pub enum Login {
+    Yes,
+    No,
+    Refused(Desk),
+}
+
 // Derives the password's key into the room for it and holds it against the card's.
 #[tactic(auto, using(crate::proofs::Desks::weighed_refused, crate::proofs::Desks::weighed_answered))]
 fn weigh(
@@ -58,7 +66,7 @@ fn weigh(
     scratch: &mut [u8],
     allowance: u64,
 ) -> Result<bool, Desk>
-    ensures { (paper result, scratch.new)
+    ensures { (found result, scratch.new)
         ≡ weighed password.now (salt_of card.now) (key_of card.now) c (length key.old) scratch.old allowance }
 {
     scrypt::derive(password, card::salt(card), c, key, scratch, allowance)?;
@@ -75,7 +83,7 @@ fn unlock(
     allowance: u64,
 ) -> Result<bool, Desk>
     requires { cardPaper (Ok m) ≡ card_of card.now }
-    ensures { (paper result, scratch.new)
+    ensures { (found result, scratch.new)
         ≡ weighed password.now (salt_of card.now) (key_of card.now) (cost_on card.now) (card_of card.now).key scratch.old allowance }
 {
     let c = Cost::of_exponent(m.exponent, m.r, m.p).map_err(scrypt::Reason::Costs)?;
@@ -83,13 +91,23 @@ fn unlock(
     weigh(password, card, c, &mut room[..m.key], scratch, allowance)
 }
 
-// Checks a login. Card, text, derivation: each desk is asked whole before the next. Refused, the
-// scratch is untouched; after yes or no it is all zero.
+// Card, text, derivation: each desk is asked whole before the next.
 #[tactic(auto, using(crate::proofs::Desks::card_refuses, crate::proofs::Desks::text_refuses, crate::proofs::Desks::asks_derivation))]
-pub fn check(text: &[u8], card: &[u8], scratch: &mut [u8], allowance: u64) -> Result<bool, Desk>
-    ensures { (paper result, scratch.new) ≡ login_of text.now card.now scratch.old allowance }
+fn ask(text: &[u8], card: &[u8], scratch: &mut [u8], allowance: u64) -> Result<bool, Desk>
+    ensures { (found result, scratch.new) ≡ login_of text.now card.now scratch.old allowance }
 {
     let m = card::read(card)?;
     text::read(text)?;
     unlock(text::password(text), card, m, scratch, allowance)
+}
+
+// Checks a login. Refused, the scratch is untouched; after yes or no it is all zero.
+pub fn check(text: &[u8], card: &[u8], scratch: &mut [u8], allowance: u64) -> Login
+    ensures { (paper result, scratch.new) ≡ login_of text.now card.now scratch.old allowance }
+{
+    match ask(text, card, scratch, allowance) {
+        Ok(true) => Login::Yes,
+        Ok(false) => Login::No,
+        Err(desk) => Login::Refused(desk),
+    }
 }

@@ -34,8 +34,9 @@ fn place(i: usize, r: usize) -> usize
     i % 2 * r + i / 2
 }
 
-// Writes BlockMix of the block of 2 * r pieces at place from over the block at place to, which lies apart. Each turn
-// carries what goes into its core, and puts what comes out where the RFC's last step wants it. The store stands before
+// Writes BlockMix of the block of 2 * r pieces at place from over the block at place to, which lies apart: two places of
+// one lent scratch, so no two slices. Each turn carries what goes into its core, and puts what comes out where the
+// RFC's last step wants it. The store stands before
 // the exclusive or: after it, a block takes a sixteenth more time.
 pub fn block_mix(s: &mut [u8], from: usize, to: usize, r: usize)
     requires { (1 ≤ r) × (r ≤ 64) × (from + 128 * r ≤ length s.old) × (to + 128 * r ≤ length s.old) × Apart (128 * r) from to }

@@ -1,5 +1,6 @@
 // HMAC with SHA-256 (RFC 2104) and PBKDF2 with one iteration over it (RFC 8018), over lent bytes.
 // The key's block and the whole blocks of a salt are hashed once: every piece of the output starts from the two saved hash values.
+// That a passphrase and a salt are shorter than 2^60 is asked of the caller's own slices: a type for it would be asked of the caller too.
 #![tactic(auto)]
 
 ghost use Rattle.std.specs.Prelude.{◌≡◌, ◌+◌, ◌-◌, ◌*◌, ◌/◌, ◌%◌, ◌^◌, ◌≤◌, ◌<◌, length, take};

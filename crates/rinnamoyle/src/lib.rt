@@ -15,10 +15,11 @@ ghost use Rattle.rinnamoyle.specs.Host.{derived, card_told, written, text_told, 
 
 use card::Meaning;
 use cost::{Cost, Exponent, Power};
-use login::Desk;
+use login::{Desk, Login};
 use scrypt::Derived;
 use text::Split;
 
+// Numbers for refusals, desks and answers: C reads these structs.
 #[repr(C)]
 #[derive(Clone, Copy)]
 pub struct DeriveTold {
@@ -230,17 +231,22 @@ impl From<Desk> for LoginTold {
     }
 }
 
-impl From<Result<bool, Desk>> for LoginTold {
+impl From<Login> for LoginTold {
     ghost from_gives = { λ x told. told ≡ login_told (Logins.paper x) };
 
-    fn from(x: Result<bool, Desk>) -> LoginTold {
+    fn from(x: Login) -> LoginTold {
         match x {
-            Ok(yes) => LoginTold {
-                answer: yes as u64,
+            Login::Yes => LoginTold {
+                answer: 1,
                 desk: 0,
                 number: 0,
             },
-            Err(desk) => desk.into(),
+            Login::No => LoginTold {
+                answer: 0,
+                desk: 0,
+                number: 0,
+            },
+            Login::Refused(desk) => desk.into(),
         }
     }
 }

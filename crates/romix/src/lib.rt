@@ -1,6 +1,6 @@
 // ROMix over one lent scratch with one block in k stored (RFC 7914 section 5), as a machine that
 // makes one mixing a step. Its state is a small struct of costs, places and counts and holds no byte
-// of a block; all bytes lie in the lent scratch, in blocks of 128·r bytes:
+// of a block; all bytes lie in the lent scratch, in blocks of 128·r bytes that are named by number:
 //
 //     lanes 0 .. p-1 | X | the block stepped forward | working block | stored V[0], V[k], V[2k] ..
 //

@@ -1,4 +1,4 @@
-// The Salsa20 core on sixteen words, and words in lent bytes.
+// The Salsa20 core on sixteen words, and words in lent bytes, each at its place as in `lent`.
 #![tactic(auto)]
 
 ghost use Rattle.std.specs.Prelude.{◌≡◌, ◌+◌, ◌≤◌, ◌<◌, length};

@@ -14,20 +14,7 @@ use Rattle.lent.proofs.Parts.{part-front, part_back, part-sets_same, sets-front,
 use Rattle.lent.proofs.Tabs.{length-tab}
 use Rattle.lent.proofs.Bounds.{below_append, below_be}
 use Rattle.lent.proofs.Words.{length-be}
-use Rattle.sha256.specs.Sha256.{K, M, Wt, H₀, padding, schedule, compress, blocks, absorb, bytes, closed, sha256}
-
--- ---- lists that are walked from the front
-
--- what comes next is the element at that place
-pub drop_next : (l : List ℕ) (n x : ℕ) (r : List ℕ) → drop n l ≡ x ∷ r → (n < length l) × (get_or l n 0 ≡ x) × (drop (suc n) l ≡ r)
-drop_next [] zero x r h = cc
-drop_next [] (suc n) x r h = cc
-drop_next (y ∷ l) zero x r h = (omega arith, cc, cc)
-drop_next (y ∷ l) (suc n) x r h = let rest = drop_next l n x r h in (omega (arith, rest.0), rest.1, rest.2)
-
-pub length-K : length K ≡ 64
-unfolding K
-length-K = refl
+use Rattle.sha256.specs.Sha256.{M, Wt, H₀, padding, schedule, compress, blocks, absorb, bytes, closed, sha256}
 
 -- ---- the schedule, filled in place: its first sixteen words are the block's, each later one follows from those before
 

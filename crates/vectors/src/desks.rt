@@ -4,7 +4,7 @@ use cost::Exponent;
 use lines::fault::Fault;
 use lines::fields::{bytes, number, size};
 use lines::say::{Hex, Left};
-use login::Desk;
+use login::{Desk, Login};
 use std::io;
 
 fn say_card(rt: &impl Print, card: &[u8]) -> io::Result<()> {
@@ -75,11 +75,11 @@ fn say_desk(rt: &impl Print, desk: Desk) -> io::Result<()> {
     print!(rt; "login refused {name} {why}")
 }
 
-fn say_login(rt: &impl Print, x: Result<bool, Desk>, scratch: &[u8]) -> io::Result<()> {
+fn say_login(rt: &impl Print, x: Login, scratch: &[u8]) -> io::Result<()> {
     match x {
-        Ok(true) => print!(rt; "login yes"),
-        Ok(false) => print!(rt; "login no"),
-        Err(desk) => say_desk(rt, desk),
+        Login::Yes => print!(rt; "login yes"),
+        Login::No => print!(rt; "login no"),
+        Login::Refused(desk) => say_desk(rt, desk),
     }?;
     println!(rt; " scratch {}", Left(scratch))
 }

@@ -1,5 +1,5 @@
 -- `login::unlock` meets its contract: a card that was read has costs that pass, and a key that fits the room.
-use Rattle.std.proofs.Common.{rules, ◌≡◌, ℕ, List, sym, ap₂, ◌∙◌, length, take, arith, length-take-le, Result, Ok}
+use Rattle.std.proofs.Common.{rules, ◌≡◌, ℕ, sym, ap₂, ◌∙◌, length, take, arith, length-take-le, Result, Ok}
 use Rattle.lent.specs.Bytes.{zeros}
 use Rattle.cost.specs.declared.Cost.{Cost}
 use Rattle.cost.specs.declared.Flaw.{Flaw}

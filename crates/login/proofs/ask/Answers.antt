@@ -1,11 +1,11 @@
--- `login::check` meets its contract: the three desks, each asked whole before the next.
-use Rattle.std.proofs.Common.{List, ℕ, sym, ap, ◌∙◌, Ok}
+-- `login::ask` meets its contract: the three desks, each asked whole before the next.
+use Rattle.std.proofs.Common.{List, ℕ, sym, ap, ◌∙◌}
 use Rattle.std.proofs.lemmas.Result.{err_from_is_err_and}
 use Rattle.text.specs.Login.{Reading}
 use Rattle.card.specs.Refusals.{read_of, salt_of, key_of}
 use Rattle.login.specs.Login.{cost_on, weighed}
-use Rattle.login.proofs.Desks.{card_refuses, text_refuses, asks_derivation}
-use Rattle.login.proofs.check.Goals as goal
+use Rattle.login.proofs.Desks.{text_refuses, asks_derivation}
+use Rattle.login.proofs.ask.Goals as goal
 
 pub returns-in_err-read : goal.returns-in_err-read
 returns-in_err-read c =
