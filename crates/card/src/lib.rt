@@ -65,7 +65,7 @@ impl From<Flaw> for Reason {
 }
 
 // What a card says beside its bytes: the costs, and how long its parts are. The salt lies at the
-// front, the key behind it.
+// front, the key behind it. Lengths and no slices, as `paper` tells them and C is told them.
 #[derive(Clone, Copy)]
 pub struct Meaning {
     pub exponent: Exponent,
@@ -107,7 +107,7 @@ fn distance(bytes: [u8; 2]) -> usize
     usize::from(u16::from_le_bytes(bytes))
 }
 
-// 23 to 25, for a card whose trailer stands behind at bytes.
+// 23 to 25, for a card whose trailer stands behind so many bytes.
 #[tactic(auto, using(crate::proofs::Cards::meant_none), unfolding(crate::specs::Refusals::judged, crate::specs::Layout::trailer_in))]
 fn judge(at: usize, trailer: &[u8; TRAILER]) -> Result<Meaning, Reason>
     ensures { paper result ≡ judged first (at + trailer_length first) (trailer_in first 0 trailer.now) }
@@ -121,7 +121,8 @@ fn judge(at: usize, trailer: &[u8; TRAILER]) -> Result<Meaning, Reason>
     if back != at {
         return Err(Reason::Lengths);
     }
-    // Never wrapped: a salt that would begin inside the key is refused first.
+    // Never wrapped: a salt that would begin inside the key is refused first. No `checked_sub`: its wrong
+    // form wraps, and the contract lets that pass, since 24 refuses the length that it leaves.
     if back < key {
         return Err(Reason::Lengths);
     }
@@ -147,7 +148,7 @@ pub fn read(card: &[u8]) -> Result<Meaning, Reason>
     judge(parts.len(), trailer)
 }
 
-// The salt; empty where the card is refused.
+// The salt; empty where the card is refused, as `salt_of` and `key_of` are.
 #[tactic(auto, using(crate::proofs::Meanings::bounds), unfolding(crate::specs::Refusals::salt_of))]
 pub fn salt(card: &[u8]) -> &[u8]
     ensures { result.now ≡ salt_of card.now }
@@ -212,7 +213,8 @@ fn put_card(salt: &[u8], key: &[u8], trailer: &[u8], room: &mut [u8])
     lent::copy(room, salt.len() + key.len(), trailer);
 }
 
-// Writes the card over the front of the room and says how long it is, or changes nothing.
+// Writes the card over the front of the room and says how long it is, or changes nothing. The costs are
+// lent as the C call lends them.
 #[tactic(auto, using(crate::proofs::Costing::small, crate::proofs::Meanings::write_refused, crate::proofs::Meanings::write_short, crate::proofs::Meanings::write_laid))]
 pub fn write(
     salt: &[u8],

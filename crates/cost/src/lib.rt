@@ -17,7 +17,8 @@ pub const MOST_EXPONENT: u64 = 20;
 pub const MOST_N: u64 = 1048576;
 
 // N is 2 to this power. A card holds the exponent and a derivation wants N; one can never pass for
-// the other. So neither has a From<u64>: with `.into()` any number would pass for either.
+// the other. So neither has a From to or from u64: with `.into()` any number would pass for either, and
+// either for a number.
 #[derive(Clone, Copy)]
 pub struct Exponent(u64);
 
@@ -43,11 +44,9 @@ impl Exponent {
     pub fn power(self) -> Option<Power>
         ensures { result ≡ power_of self }
     {
-        if (1..=MOST_EXPONENT).contains(&self.0) {
-            Some(Power(1 << self.0))
-        } else {
-            None
-        }
+        (1..=MOST_EXPONENT)
+            .contains(&self.0)
+            .then(|| Power(1 << self.0))
     }
 }
 

@@ -5,8 +5,8 @@ use native.Mathlib.Nat.{div-div-eq-div-mul, one-le-pow}
 use lib.Arith.{mod-mul}
 use lib.Seq.{take-length}
 use Rattle.lent.specs.Bytes.{Bytes, part, tab}
-use Rattle.std.specs.Int.{w32, rotate_left}
-use Rattle.lent.specs.Word.{rotl, le, be, of_le}
+use Rattle.std.specs.Int.{w32, rotate_left, rotate_right}
+use Rattle.lent.specs.Word.{rotl, rotr, le, be, of_le}
 use Rattle.lent.proofs.Tabs.{tab-part}
 
 pub length-le : (n x : ℕ) → length (le n x) ≡ n
@@ -74,6 +74,9 @@ of_le-append (x ∷ a) b = rw (of_le-append a b, pow-suc 256 (length a)) (omega 
 pub four : (l : List ℕ) → length l ≡ 4 → l ≡ get_or l 0 0 ∷ get_or l 1 0 ∷ get_or l 2 0 ∷ get_or l 3 0 ∷ []
 four l h = sym (rw h at (take-length l)) ∙ part_four l 0 (omega arith)
 
--- the library's rotation is the paper's, by fewer bits than the word has
+-- the library's rotations are the paper's, by fewer bits than the word has
 pub rotl_is : (n x : ℕ) → 0 < n → n < 32 → rotate_left w32 x n ≡ rotl n x
 rotl_is n x h k = let e : n % 32 ≡ n = omega arith in let d : (32 - n) % 32 ≡ 32 - n = omega arith in rw (e, d) refl
+
+pub rotr_is : (n x : ℕ) → 0 < n → n < 32 → rotate_right w32 x n ≡ rotr n x
+rotr_is n x h k = let e : n % 32 ≡ n = omega arith in let d : (32 - n) % 32 ≡ 32 - n = omega arith in rw (e, d) refl

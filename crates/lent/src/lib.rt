@@ -1,7 +1,7 @@
 // Lent bytes: reading a part, writing into a place, and words in bytes. Every function says what the
 // whole lent slice is when it returns, as one definition of what it was, so that callers compose
-// them by rewriting and nothing else can have changed. So a place stands beside the slice, and no part
-// of it is lent in its stead: what is said of a part says nothing of the rest.
+// them by rewriting and nothing else can have changed. So a place stands beside the slice, in what
+// writes and in what reads (docs/DECISIONS.md, "The ground").
 #![tactic(auto)]
 
 ghost use Rattle.std.specs.Prelude.{◌≡◌, ◌+◌, ◌-◌, ◌*◌, ◌++◌, ◌^◌, ◌<◌, ◌≤◌, ℕ, List, length, get_or};
@@ -50,8 +50,8 @@ pub fn wipe_all(s: &mut [u8])
     s.fill(0);
 }
 
-// Whether a and b hold the same bytes. Every pair is looked at, wherever the first difference lies: `==`
-// may stop there.
+// Whether a and b hold the same bytes. No `==`, which may stop at the first difference: every pair is
+// looked at (docs/DECISIONS.md, "The ground").
 pub fn same(a: &[u8], b: &[u8]) -> bool
     ensures { result ≡ eqs a.now b.now }
 {
@@ -150,7 +150,7 @@ pub fn load<O: Order, const N: usize>(s: &[u8], at: usize) -> [u32; N]
     x
 }
 
-// Writes N words from place at on.
+// Writes N words from place at on. By `four` and no `put`: how long its answer is, is in the type.
 pub fn store<O: Order, const N: usize>(s: &mut [u8], at: usize, x: &[u32; N])
     requires { at + 4 * N ≤ length s.old }
     ensures { s.new ≡ sets s.old at (joined N (λ i. O.written 4 (get_or x.now i 0))) }

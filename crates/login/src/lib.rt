@@ -56,7 +56,22 @@ pub enum Login {
     Refused(Desk),
 }
 
-// Derives the password's key into the room for it and holds it against the card's.
+impl From<Result<bool, Desk>> for Login {
+    ghost use Rattle.login.specs.Login.{paper, found};
+
+    ghost from_gives = { λ x login. paper login ≡ found x };
+
+    fn from(x: Result<bool, Desk>) -> Login {
+        match x {
+            Ok(true) => Login::Yes,
+            Ok(false) => Login::No,
+            Err(desk) => Login::Refused(desk),
+        }
+    }
+}
+
+// Derives the password's key into the room for it and holds it against the card's. Scratch and
+// allowance go from call to call as the C call lends them.
 #[tactic(auto, using(crate::proofs::Desks::weighed_refused, crate::proofs::Desks::weighed_answered))]
 fn weigh(
     password: &[u8],
@@ -73,7 +88,8 @@ fn weigh(
     Ok(lent::same(key, card::key(card)))
 }
 
-// The derivation's desk, for a card that means m. No card that is read has costs that are refused.
+// The derivation's desk, for a card that means m. No card that is read has costs that are refused. The
+// room has the length of the longest key: nothing is allocated.
 #[tactic(auto, using(crate::proofs::Desks::read_passes))]
 fn unlock(
     password: &[u8],
@@ -105,9 +121,5 @@ fn ask(text: &[u8], card: &[u8], scratch: &mut [u8], allowance: u64) -> Result<b
 pub fn check(text: &[u8], card: &[u8], scratch: &mut [u8], allowance: u64) -> Login
     ensures { (paper result, scratch.new) ≡ login_of text.now card.now scratch.old allowance }
 {
-    match ask(text, card, scratch, allowance) {
-        Ok(true) => Login::Yes,
-        Ok(false) => Login::No,
-        Err(desk) => Login::Refused(desk),
-    }
+    ask(text, card, scratch, allowance).into()
 }

@@ -35,9 +35,8 @@ fn place(i: usize, r: usize) -> usize
 }
 
 // Writes BlockMix of the block of 2 * r pieces at place from over the block at place to, which lies apart: two places of
-// one lent scratch, so no two slices. Each turn carries what goes into its core, and puts what comes out where the
-// RFC's last step wants it. The store stands before
-// the exclusive or: after it, a block takes a sixteenth more time.
+// one lent slice, as in `lent`. Each turn carries what goes into its core, and puts what comes out where the RFC's last
+// step wants it. The store stands before the exclusive or: the other order is slower (docs/MEASURED.md).
 pub fn block_mix(s: &mut [u8], from: usize, to: usize, r: usize)
     requires { (1 ≤ r) × (r ≤ 64) × (from + 128 * r ≤ length s.old) × (to + 128 * r ≤ length s.old) × Apart (128 * r) from to }
     ensures { s.new ≡ sets s.old to (block_mix r (part from (128 * r) s.old)) }

@@ -1,6 +1,7 @@
 // HMAC with SHA-256 (RFC 2104) and PBKDF2 with one iteration over it (RFC 8018), over lent bytes.
 // The key's block and the whole blocks of a salt are hashed once: every piece of the output starts from the two saved hash values.
-// That a passphrase and a salt are shorter than 2^60 is asked of the caller's own slices: a type for it would be asked of the caller too.
+// That a passphrase and a salt are shorter than 2^60 is asked of the caller's own slices: a type for it would be asked of the
+// caller too.
 #![tactic(auto)]
 
 ghost use Rattle.std.specs.Prelude.{◌≡◌, ◌+◌, ◌-◌, ◌*◌, ◌/◌, ◌%◌, ◌^◌, ◌≤◌, ◌<◌, length, take};
@@ -38,8 +39,8 @@ fn keyed(k: [u8; 64], pad: u8) -> [u32; 8]
     sha256::absorb(sha256::initial(), &masked(k, pad))
 }
 
-// Two hash values that are kept: `outer` after the key's block, and `inner` after the first `before` bytes of what is hashed inside,
-// the key's block and whole blocks of the text.
+// Two hash values that are kept: `outer` after the key's block, and `inner` after the first `before` bytes of what is hashed
+// inside, the key's block and whole blocks of the text.
 #[derive(Clone, Copy)]
 struct Saved {
     outer: [u32; 8],
@@ -106,7 +107,8 @@ impl Saved {
         self.twice(&b[..n + 4])
     }
 
-    // Fills out with the pieces, the first of which has number 1. Over the library's `chunks_mut` the proof didn't close: it says nothing of what out holds afterwards.
+    // Fills out with the pieces, the first of which has number 1. Over the library's `chunks_mut` the proof didn't close: it
+    // says nothing of what out holds afterwards.
     fn fill(&self, rest: &[u8], out: &mut [u8])
         requires { (length rest.now < 64) × (length out.old ≤ 32 * (2 ^ 32 - 1)) }
         ensures { out.new ≡ derived (piece self.now.outer self.now.inner self.now.before rest.now) (length out.old) }
@@ -125,7 +127,7 @@ pub fn hmac(key: &[u8], text: &[u8]) -> [u8; 32]
     Saved::new(key).twice(text)
 }
 
-// Writes d at place at, as much of it as there is room for.
+// Writes d at place at, as much of it as there is room for; at a place, as in `lent`.
 fn lay(out: &mut [u8], at: usize, d: &[u8; 32])
     requires { at ≤ length out.old }
     ensures { out.new ≡ sets out.old at (take (length out.old - at) d.now) }

@@ -209,6 +209,7 @@ pub extern "C" fn rinnamoyle_text_read(text: &[u8]) -> TextTold
     tell_text(text::read(text))
 }
 
+// Two numbers, as C reads them.
 fn refused(desk: u64, number: u64) -> LoginTold
     ensures { result ≡ login_told (Logins.refused_by desk number) }
 {

@@ -252,7 +252,8 @@ impl State {
 
 // ROMix in each of the p lanes at the front of the scratch, with one block in k stored, w of them.
 // The answer is the number of mixings made. Behind the lanes the scratch is left as the machine left
-// it: whoever lends it wipes it. It takes the costs as numbers: a caller with a `State` would write the machine's places too.
+// it: whoever lends it wipes it. It takes the costs as numbers: a caller with a `State` would write the
+// machine's places too, and a struct of five would be made at the call and opened here.
 #[tactic(auto, using(crate::proofs::Steps::some_stored))]
 pub fn mix_lanes(
     n: usize,

@@ -1,4 +1,4 @@
-// The Salsa20 core on sixteen words, and words in lent bytes, each at its place as in `lent`.
+// The Salsa20 core on sixteen words, and words in lent bytes, each at its place, as in `lent`.
 #![tactic(auto)]
 
 ghost use Rattle.std.specs.Prelude.{◌≡◌, ◌+◌, ◌≤◌, ◌<◌, length};
@@ -31,6 +31,7 @@ fn quarter(x: [u32; 16], a: usize, b: usize, c: usize, d: usize) -> [u32; 16]
     step(y, a, d, c, 18)
 }
 
+// The two rounds differ in the places that the RFC lists, and have its lists.
 #[tactic(auto, unfolding(crate::specs::Salsa::columns))]
 fn columns(x: [u32; 16]) -> [u32; 16]
     ensures { result ≡ spec.columns x }

@@ -65,7 +65,8 @@ pub struct Plan {
     pub stored: u64,
 }
 
-// What a derivation did: its spacing, its stored blocks and the mixings made.
+// What a derivation did: its spacing, its stored blocks and the mixings made, side by side as the paper
+// and C have them.
 #[derive(Clone, Copy)]
 pub struct Derived {
     pub spacing: u64,
@@ -118,7 +119,7 @@ fn planned(
     afford(scratch, allowance, c.check()?)
 }
 
-// Fills the front of the scratch with the lanes.
+// Fills the front of the scratch with the lanes. The whole scratch and a size, as in `lent`.
 #[tactic(auto, using(crate::proofs::Lanes::laying))]
 fn lay_lanes(pass: &[u8], salt: &[u8], size: usize, scratch: &mut [u8])
     requires { (length pass.now ≤ longest_passphrase) × (length salt.now ≤ longest_salt) × (size ≤ 2 ^ 20) × (size ≤ length scratch.old) }

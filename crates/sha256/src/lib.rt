@@ -33,7 +33,7 @@ fn maj(x: u32, y: u32, z: u32) -> u32
     (x & y) ^ (x & z) ^ (y & z)
 }
 
-// The four functions Σ and σ, each written out with the standard's own numbers.
+// The four functions Σ and σ, each with the standard's own numbers: over three numbers one would be no shorter.
 fn big0(x: u32) -> u32
     ensures { result ≡ Σ₀ x }
 {
@@ -68,7 +68,8 @@ fn next(w2: u32, w7: u32, w15: u32, w16: u32) -> u32
         .wrapping_add(w16)
 }
 
-// The whole schedule. One loop, as the standard defines a word by its place: sixteen words that are loaded first and copied here cost a tenth.
+// The whole schedule. One loop, as the standard defines a word by its place: sixteen words that are loaded first and then
+// copied are slower (docs/MEASURED.md).
 fn schedule(block: &[u8; 64]) -> [u32; 64]
     ensures { result ≡ schedule block.now 64 }
 {

@@ -30,7 +30,8 @@ impl From<Reason> for u64 {
     }
 }
 
-// The lengths of the two parts: the user name is the text's front, the password its end.
+// The lengths of the two parts: the user name is the text's front, the password its end. Lengths and no
+// slices, as `paper` tells them and C is told them.
 #[derive(Clone, Copy)]
 pub struct Split {
     pub user: usize,
@@ -61,7 +62,7 @@ pub fn read(text: &[u8]) -> Result<Split, Reason>
     })
 }
 
-// The user name; empty where the text is refused.
+// The user name; empty where the text is refused, as `user_of` and `password_of` are.
 #[tactic(auto, using(crate::proofs::Splits::bounds), unfolding(crate::specs::Login::user_of))]
 pub fn user(text: &[u8]) -> &[u8]
     ensures { result.now ≡ user_of text.now }
