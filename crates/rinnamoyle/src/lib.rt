@@ -21,7 +21,7 @@ use text::Split;
 
 // Numbers for refusals, desks and answers: C reads these structs.
 #[repr(C)]
-#[derive(Clone, Copy)]
+#[derive(Clone, Copy, Default)]
 pub struct DeriveTold {
     pub number: u64,
     pub spacing: u64,
@@ -30,7 +30,7 @@ pub struct DeriveTold {
 }
 
 #[repr(C)]
-#[derive(Clone, Copy)]
+#[derive(Clone, Copy, Default)]
 pub struct CardTold {
     pub number: u64,
     pub exponent: u64,
@@ -43,14 +43,14 @@ pub struct CardTold {
 }
 
 #[repr(C)]
-#[derive(Clone, Copy)]
+#[derive(Clone, Copy, Default)]
 pub struct WriteTold {
     pub number: u64,
     pub length: u64,
 }
 
 #[repr(C)]
-#[derive(Clone, Copy)]
+#[derive(Clone, Copy, Default)]
 pub struct TextTold {
     pub number: u64,
     pub user_len: u64,
@@ -59,7 +59,7 @@ pub struct TextTold {
 }
 
 #[repr(C)]
-#[derive(Clone, Copy)]
+#[derive(Clone, Copy, Default)]
 pub struct LoginTold {
     pub answer: u64,
     pub desk: u64,
@@ -79,9 +79,7 @@ impl From<Result<Derived, scrypt::Reason>> for DeriveTold {
             },
             Err(why) => DeriveTold {
                 number: why.into(),
-                spacing: 0,
-                stored: 0,
-                mixings: 0,
+                ..Default::default()
             },
         }
     }
@@ -127,13 +125,7 @@ impl From<Result<Meaning, card::Reason>> for CardTold {
             },
             Err(why) => CardTold {
                 number: why.into(),
-                exponent: 0,
-                r: 0,
-                p: 0,
-                salt_at: 0,
-                salt_len: 0,
-                key_at: 0,
-                key_len: 0,
+                ..Default::default()
             },
         }
     }
@@ -158,7 +150,7 @@ impl From<Result<usize, card::Reason>> for WriteTold {
             },
             Err(why) => WriteTold {
                 number: why.into(),
-                length: 0,
+                ..Default::default()
             },
         }
     }
@@ -193,9 +185,7 @@ fn tell_text(x: Result<Split, text::Reason>) -> TextTold
         },
         Err(why) => TextTold {
             number: why.into(),
-            user_len: 0,
-            password_at: 0,
-            password_len: 0,
+            ..Default::default()
         },
     }
 }
@@ -239,14 +229,9 @@ impl From<Login> for LoginTold {
         match x {
             Login::Yes => LoginTold {
                 answer: 1,
-                desk: 0,
-                number: 0,
+                ..Default::default()
             },
-            Login::No => LoginTold {
-                answer: 0,
-                desk: 0,
-                number: 0,
-            },
+            Login::No => LoginTold::default(),
             Login::Refused(desk) => desk.into(),
         }
     }
