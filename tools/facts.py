@@ -21,7 +21,8 @@ for path in sorted(glob.glob("crates/*/src/**/*.rt", recursive=True)):
                 fact = fact[1:-1]
             fact = re.sub(r"\bself\b", "t", fact)
             fact = re.sub(r"\blength \w+\.(now|old)", "length s", fact)
-            found[f"{crate}: {fact}"].append(function)
+            if function not in found[f"{crate}: {fact}"]:
+                found[f"{crate}: {fact}"].append(function)
 for fact, functions in sorted(found.items(), key=lambda x: -len(x[1])):
     if len(functions) > 2:
         print(len(functions), fact, "|", " ".join(functions))
