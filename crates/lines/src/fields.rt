@@ -29,21 +29,10 @@ fn decimal(w: &[u8]) -> Option<u64> {
 pub fn number(w: &[u8]) -> Result<u64, Fault>
     ensures { IfOk result (λ _. (1 ≤ length w.now) × (length w.now ≤ 20)) }
 {
-    if w.is_empty() || 20 < w.len() {
+    if !(1..=20).contains(&w.len()) {
         return Err(Fault::Malformed);
     }
     decimal(w).ok_or(Fault::Malformed)
-}
-
-// The LENGTH that a word says, of a room that is no longer than most.
-pub fn size(w: &[u8], most: usize) -> Result<usize, Fault>
-    ensures { IfOk result (λ n. n ≤ most) }
-{
-    let n = number(w)?;
-    if (most as u64) < n {
-        return Err(Fault::Malformed);
-    }
-    Ok(n as usize)
 }
 
 // The byte that two hexadecimal digits say.
@@ -72,13 +61,20 @@ fn starred(w: &[u8]) -> Result<(&[u8], u64), Fault> {
 }
 
 // The front of the room that so many bytes fill, if they fit.
-fn front(room: &mut [u8], n: Option<u64>) -> Result<&mut [u8], Fault>
+fn front(room: &mut [u8], n: u64) -> Result<&mut [u8], Fault>
     ensures { IfOk result (λ s. length s.now ≤ length room.old) }
 {
-    match n {
-        Some(n) if n <= room.len() as u64 => Ok(&mut room[..n as usize]),
-        _ => Err(Fault::Malformed),
+    if n > room.len() as u64 {
+        return Err(Fault::Malformed);
     }
+    Ok(&mut room[..n as usize])
+}
+
+// The buffer of the LENGTH that a word says, at the front of the room.
+pub fn buffer<'a>(w: &[u8], room: &'a mut [u8]) -> Result<&'a mut [u8], Fault>
+    ensures { IfOk result (λ s. length s.now ≤ length room.old) }
+{
+    front(room, number(w)?)
 }
 
 // The BYTES that a word says, at the front of the room.
@@ -90,8 +86,12 @@ pub fn bytes<'a>(w: &[u8], room: &'a mut [u8]) -> Result<&'a [u8], Fault>
     }
     let (digits, times) = starred(w)?;
     let pairs = pairs(digits)?;
-    let said = front(room, times.checked_mul(pairs.len() as u64))?;
+    let n = times
+        .checked_mul(pairs.len() as u64)
+        .ok_or(Fault::Malformed)?;
+    let said = front(room, n)?;
     for once in said.chunks_exact_mut(pairs.len()) {
+        // No pair is left out here: pairs has refused each that says no byte.
         for (to, b) in once.iter_mut().zip(pairs.iter().filter_map(pair)) {
             *to = b;
         }

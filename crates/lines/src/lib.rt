@@ -1,4 +1,4 @@
-// Lines of a program that is asked for calls: the words of a line that is read, and the answer's.
+// The lines of the vectors: reading of the words of a line, and Display of bytes and buffers.
 #![tactic(auto)]
 
 pub mod fault;

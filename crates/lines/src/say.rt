@@ -1,9 +1,12 @@
-// What is written to standard output of bytes.
+// Display of bytes, and of a buffer that was lent.
 ghost use Rattle.std.specs.Prelude.{◌≡◌, Some};
 ghost use Rattle.std.specs.Fmt.{WritesOnOk};
 ghost use Rattle.lines.specs.Said.{digit_pair, full_of, hex_text, left_text};
 
 use std::fmt;
+
+// What a buffer is full of before it is lent. The definitions in specs/ have the number itself.
+pub const BEFORE: u8 = 0xa5;
 
 // A byte's two digits in lower hexadecimal.
 #[tactic(auto, using(crate::proofs::Digits::written))]
@@ -38,7 +41,7 @@ fn full_of(b: u8, bytes: &[u8]) -> bool
     bytes.iter().all(|x| *x == b)
 }
 
-// What became of a buffer that was full of a5: every byte is zero, each is kept, or else the bytes it has now.
+// What became of a buffer that was full of BEFORE: every byte is zero, each is kept, or else the bytes it has now.
 #[derive(Clone, Copy)]
 pub struct Left<'a>(pub &'a [u8]);
 
@@ -48,7 +51,7 @@ impl fmt::Display for Left<'_> {
     fn fmt<W: fmt::Write>(&self, f: &mut fmt::Formatter<W>) -> fmt::Result {
         if full_of(0, self.0) {
             f.write_str("zero")
-        } else if full_of(0xa5, self.0) {
+        } else if full_of(BEFORE, self.0) {
             f.write_str("kept")
         } else {
             Hex(self.0).fmt(f)

@@ -1,5 +1,5 @@
 // Which call a line is.
-use crate::rooms::Rooms;
+use crate::rooms::{FIRST, Rooms, SECOND};
 use crate::{desks, hashes, mixes};
 use lines::fault::Fault;
 use std::io;
@@ -28,17 +28,22 @@ fn run(rt: &impl Print, rooms: &mut Rooms, words: &[&[u8]]) -> Result<(), Fault>
     }
 }
 
-// Runs the call that a line is. The longest has nine words: a tenth is enough to say that there are
-// too many.
+// The longest call has nine words: a tenth is enough to say that there are too many.
+const WORDS: usize = 10;
+
+// Runs the call that a line is. Its words stand in an array since nothing is allocated for the program
+// (docs/DECISIONS.md).
 fn run_line(rt: &impl Print, line: &[u8]) -> Result<(), Fault> {
-    let mut words = [b"".as_slice(); 10];
-    for (i, word) in line.split(|b| *b == b' ').take(10).enumerate() {
-        words[i] = word;
-    }
-    let n = line.split(|b| *b == b' ').take(10).count();
+    let mut words = [b"".as_slice(); WORDS];
+    let split = line.split(|b| *b == b' ');
+    let n = words
+        .iter_mut()
+        .zip(split)
+        .map(|(to, word)| *to = word)
+        .count();
     let mut rooms = Rooms {
-        first: [0; 1048576],
-        second: [0; 4096],
+        first: [0; FIRST],
+        second: [0; SECOND],
     };
     run(rt, &mut rooms, &words[..n])
 }

@@ -1,12 +1,13 @@
 // Cards, texts and logins.
-use crate::rooms::{BEFORE, OUTPUT, Rooms, SCRATCH};
+use crate::rooms::{OUTPUT, Rooms, SCRATCH};
 use cost::Exponent;
 use lines::fault::Fault;
-use lines::fields::{bytes, number, size};
-use lines::say::{Hex, Left};
+use lines::fields::{buffer, bytes, number};
+use lines::say::{BEFORE, Hex, Left};
 use login::{Desk, Login};
-use std::io;
+use std::{fmt, io};
 
+// The number printed behind a name is the refusal's, and 0 for none (docs/VECTORS.md).
 fn say_card(rt: &impl Print, card: &[u8]) -> io::Result<()> {
     let [why, exponent, r, p] = match card::read(card) {
         Ok(m) => [0, m.exponent.number(), m.r, m.p],
@@ -19,9 +20,11 @@ fn say_card(rt: &impl Print, card: &[u8]) -> io::Result<()> {
 }
 
 pub fn card(rt: &impl Print, rooms: &mut Rooms, card: &[u8]) -> Result<(), Fault> {
-    Ok(say_card(rt, bytes(card, &mut rooms.first)?)?)
+    say_card(rt, bytes(card, &mut rooms.first)?)?;
+    Ok(())
 }
 
+// The number is 0 where nothing is refused (docs/VECTORS.md).
 fn say_written(
     rt: &impl Print,
     written: Result<usize, card::Reason>,
@@ -47,11 +50,13 @@ pub fn write(
     let [exponent, r, p] = costs;
     let exponent = Exponent::new(number(exponent)?);
     let mut output = [BEFORE; OUTPUT];
-    let room = &mut output[..size(room, OUTPUT)?];
+    let room = buffer(room, &mut output)?;
     let written = card::write(salt, key, exponent, number(r)?, number(p)?, room);
-    Ok(say_written(rt, written, room)?)
+    say_written(rt, written, room)?;
+    Ok(())
 }
 
+// The number is 0 where nothing is refused (docs/VECTORS.md).
 fn say_text(rt: &impl Print, text: &[u8]) -> io::Result<()> {
     let why = match text::read(text) {
         Ok(_) => 0,
@@ -63,25 +68,36 @@ fn say_text(rt: &impl Print, text: &[u8]) -> io::Result<()> {
 }
 
 pub fn text(rt: &impl Print, rooms: &mut Rooms, text: &[u8]) -> Result<(), Fault> {
-    Ok(say_text(rt, bytes(text, &mut rooms.first)?)?)
+    say_text(rt, bytes(text, &mut rooms.first)?)?;
+    Ok(())
 }
 
-fn say_desk(rt: &impl Print, desk: Desk) -> io::Result<()> {
-    let (name, why) = match desk {
-        Desk::OfCard(why) => ("card", u64::from(why)),
-        Desk::OfText(why) => ("text", u64::from(why)),
-        Desk::OfDerivation(why) => ("derivation", u64::from(why)),
-    };
-    print!(rt; "login refused {name} {why}")
+// The desk that refused, and its number.
+#[derive(Clone, Copy)]
+struct Refusal(Desk);
+
+impl fmt::Display for Refusal {
+    fn fmt<W: fmt::Write>(&self, f: &mut fmt::Formatter<W>) -> fmt::Result {
+        match self.0 {
+            Desk::OfCard(why) => write!(f, "card {}", u64::from(why)),
+            Desk::OfText(why) => write!(f, "text {}", u64::from(why)),
+            Desk::OfDerivation(why) => write!(f, "derivation {}", u64::from(why)),
+        }
+    }
 }
 
-fn say_login(rt: &impl Print, x: Login, scratch: &[u8]) -> io::Result<()> {
-    match x {
-        Login::Yes => print!(rt; "login yes"),
-        Login::No => print!(rt; "login no"),
-        Login::Refused(desk) => say_desk(rt, desk),
-    }?;
-    println!(rt; " scratch {}", Left(scratch))
+// What the login says.
+#[derive(Clone, Copy)]
+struct Verdict(Login);
+
+impl fmt::Display for Verdict {
+    fn fmt<W: fmt::Write>(&self, f: &mut fmt::Formatter<W>) -> fmt::Result {
+        match self.0 {
+            Login::Yes => f.write_str("yes"),
+            Login::No => f.write_str("no"),
+            Login::Refused(desk) => write!(f, "refused {}", Refusal(desk)),
+        }
+    }
 }
 
 pub fn login(
@@ -95,7 +111,8 @@ pub fn login(
     let text = bytes(text, &mut rooms.first)?;
     let card = bytes(card, &mut rooms.second)?;
     let mut room = [BEFORE; SCRATCH];
-    let scratch = &mut room[..size(scratch, SCRATCH)?];
+    let scratch = buffer(scratch, &mut room)?;
     let x = login::check(text, card, scratch, number(allowance)?);
-    Ok(say_login(rt, x, scratch)?)
+    println!(rt; "login {} scratch {}", Verdict(x), Left(scratch))?;
+    Ok(())
 }

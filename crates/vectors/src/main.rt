@@ -32,16 +32,19 @@ fn answer_all(rt: &impl Print, input: &[u8]) -> io::Result<()> {
     Ok(())
 }
 
-// The room is one byte longer than the longest input that is taken.
-fn run(rt: &(impl Print + Input), room: &mut [u8; 2097153]) -> io::Result<()> {
-    let n = io::copy(&mut rt.reader().take(2097153), &mut room.as_mut_slice())?;
-    if 2097152 < n {
+// One byte more than the longest input that is taken.
+const ROOM: usize = 2097153;
+
+fn run(rt: &(impl Print + Input), room: &mut [u8; ROOM]) -> io::Result<()> {
+    let n = io::copy(&mut rt.reader().take(ROOM as u64), &mut room.as_mut_slice())? as usize;
+    if ROOM <= n {
         return println!(rt; "input too long");
     }
-    answer_all(rt, &room[..n as usize])
+    answer_all(rt, &room[..n])
 }
 
+// The input stands in an array since nothing is allocated for the program (docs/DECISIONS.md).
 fn main(rt: HostRuntime) -> io::Result<()> {
-    let mut room = [0u8; 2097153];
+    let mut room = [0u8; ROOM];
     run(&rt, &mut room)
 }

@@ -1,11 +1,11 @@
 // Salsa20/8, BlockMix, ROMix and the derivation.
 ghost use Rattle.std.specs.Prelude.{◌≡◌, ◌+◌, ◌*◌, ◌%◌, ◌≤◌, length, IfOk};
 
-use crate::rooms::{BEFORE, OUTPUT, Rooms, SCRATCH};
-use cost::{Cost, Power};
+use crate::rooms::{OUTPUT, Rooms, SCRATCH};
+use cost::{Cost, MOST_N, MOST_R, Power};
 use lines::fault::Fault;
-use lines::fields::{bytes, number, size};
-use lines::say::{Hex, Left};
+use lines::fields::{buffer, bytes, number};
+use lines::say::{BEFORE, Hex, Left};
 use scrypt::Derived;
 use std::io;
 
@@ -16,29 +16,35 @@ pub fn core(rt: &impl Print, rooms: &mut Rooms, x: &[u8]) -> Result<(), Fault> {
     }
     let mut y = [0u8; 64];
     salsa::store(&mut y, 0, salsa::core(salsa::load(x, 0)));
-    Ok(println!(rt; "salsa {}", Hex(&y))?)
+    println!(rt; "salsa {}", Hex(&y))?;
+    Ok(())
 }
 
-// The r that a word says, where the block has its 128·r bytes.
+// The r that a word says, where the block has its 128·r bytes. Clauses here have the numbers of MOST_R,
+// MOST_N and SCRATCH.
 fn width(r: &[u8], block: &[u8]) -> Result<usize, Fault>
     ensures { IfOk result (λ r. (1 ≤ r) × (r ≤ 32) × (128 * r ≡ length block.now)) }
 {
     let r = number(r)?;
-    if r < 1 || 32 < r || block.len() as u64 != 128 * r {
+    if !(1..=MOST_R).contains(&r) || block.len() as u64 != 128 * r {
         return Err(Fault::Malformed);
     }
     Ok(r as usize)
 }
+
+// The room of a block of the greatest r and of its mixture.
+const BLOCKS: usize = 8192;
 
 pub fn block(rt: &impl Print, rooms: &mut Rooms, r: &[u8], block: &[u8]) -> Result<(), Fault> {
     let block = bytes(block, &mut rooms.first)?;
     let r = width(r, block)?;
     let half = 128 * r;
     let end = 256 * r;
-    let mut s = [BEFORE; 8192];
+    let mut s = [BEFORE; BLOCKS];
     lent::copy(&mut s, 0, block);
     mixing::block_mix(&mut s, 0, half, r);
-    Ok(println!(rt; "blockmix {}", Hex(&s[half..end]))?)
+    println!(rt; "blockmix {}", Hex(&s[half..end]))?;
+    Ok(())
 }
 
 // The costs of one lane with one block in k stored, w of them. Beside those ROMix wants four.
@@ -63,7 +69,7 @@ impl LaneCosts {
     fn new(n: u64, r: usize, k: u64) -> Result<LaneCosts, Fault>
         requires { (1 ≤ r) × (r ≤ 32) }
     {
-        if k < 1 || n < k || 1048576 < n || 4294967296 % n != 0 {
+        if !(1..=n).contains(&k) || MOST_N < n || 4294967296 % n != 0 {
             return Err(Fault::Malformed);
         }
         let w = n.div_ceil(k) as usize;
@@ -79,7 +85,7 @@ impl LaneCosts {
     }
 
     // The number of mixings made.
-    fn mix(self, s: &mut [u8; 65536]) -> u64 {
+    fn mix(self, s: &mut [u8; SCRATCH]) -> u64 {
         romix::mix_lanes(self.n, self.r, 1, self.k, self.w, s, u64::MAX)
     }
 }
@@ -97,7 +103,8 @@ pub fn lane(
     let mut s = [BEFORE; SCRATCH];
     lent::copy(&mut s, 0, block);
     let mixings = costs.mix(&mut s);
-    Ok(println!(rt; "romix mixings {mixings} lane {}", Hex(&s[..block.len()]))?)
+    println!(rt; "romix mixings {mixings} lane {}", Hex(&s[..block.len()]))?;
+    Ok(())
 }
 
 // The cost that three words say: N, r and p.
@@ -110,6 +117,7 @@ fn cost(words: [&[u8]; 3]) -> Result<Cost, Fault> {
     })
 }
 
+// The number is 0 where nothing is refused (docs/VECTORS.md).
 fn say_derived(
     rt: &impl Print,
     x: Result<Derived, scrypt::Reason>,
@@ -142,8 +150,9 @@ pub fn derive(
     let costs = cost(costs)?;
     let mut output = [BEFORE; OUTPUT];
     let mut room = [BEFORE; SCRATCH];
-    let key = &mut output[..size(key, OUTPUT)?];
-    let scratch = &mut room[..size(scratch, SCRATCH)?];
+    let key = buffer(key, &mut output)?;
+    let scratch = buffer(scratch, &mut room)?;
     let x = scrypt::derive(pass, salt, costs, key, scratch, number(allowance)?);
-    Ok(say_derived(rt, x, key, scratch)?)
+    say_derived(rt, x, key, scratch)?;
+    Ok(())
 }

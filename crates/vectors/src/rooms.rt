@@ -1,17 +1,19 @@
-// The rooms of a line's fields.
+// The rooms of a line's fields. They are arrays since nothing is allocated for the program
+// (docs/DECISIONS.md).
 
 // The longest key or card that is written, and the longest scratch.
 pub const OUTPUT: usize = 4096;
 
 pub const SCRATCH: usize = 65536;
 
-// What a lent buffer is full of before the call.
-pub const BEFORE: u8 = 0xa5;
+// The longest first BYTES of a line, and the longest second.
+pub const FIRST: usize = 1048576;
 
-// Where a line's first BYTES are put, and its second. Nothing is allocated for the program
-// (docs/DECISIONS.md), so these are arrays.
+pub const SECOND: usize = 4096;
+
+// Where they are put.
 #[derive(Drop)]
 pub struct Rooms {
-    pub first: [u8; 1048576],
-    pub second: [u8; 4096],
+    pub first: [u8; FIRST],
+    pub second: [u8; SECOND],
 }
