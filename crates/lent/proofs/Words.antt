@@ -1,11 +1,11 @@
 -- Laws of words in bytes, over the width.
 -- Assumes nothing.
-use Rattle.std.proofs.Common.{◌≡◌, ℕ, zero, suc, ◌+◌, ◌-◌, ◌*◌, ◌/◌, ◌%◌, ◌^◌, ◌<◌, ◌≤◌, List, [], ◌∷◌, ◌++◌, length, get_or, drop, sym, refl, ap, ◌∙◌, append_assoc, append-nil, add-zero, add-suc, mul_comm, pow-suc, div-one, add-one, arith, length-append, length-drop}
+use Rattle.std.proofs.Common.{◌≡◌, ℕ, zero, suc, ◌+◌, ◌-◌, ◌*◌, ◌/◌, ◌%◌, ◌^◌, ◌<◌, ◌≤◌, List, [], ◌∷◌, ◌++◌, length, get_or, drop, sym, refl, ap, ap₂, ◌∙◌, append_assoc, append-nil, add-zero, add-suc, mul_comm, pow-suc, div-one, add-one, arith, length-append, length-drop}
 use native.Mathlib.Nat.{div-div-eq-div-mul, one-le-pow}
 use lib.Arith.{mod-mul}
 use lib.Seq.{take-length}
 use Rattle.lent.specs.Bytes.{Bytes, part, tab}
-use Rattle.std.specs.Int.{w32, rotate_left, rotate_right}
+use Rattle.std.specs.Int.{w32, rotate_left, rotate_right, byte_at, bytes_low_first, bytes_high_first}
 use Rattle.lent.specs.Word.{rotl, rotr, le, be, of_le}
 use Rattle.lent.proofs.Tabs.{tab-part}
 
@@ -80,3 +80,30 @@ rotl_is n x h k = let e : n % 32 ≡ n = omega arith in let d : (32 - n) % 32 �
 
 pub rotr_is : (n x : ℕ) → 0 < n → n < 32 → rotate_right w32 x n ≡ rotr n x
 rotr_is n x h k = let e : n % 32 ≡ n = omega arith in let d : (32 - n) % 32 ≡ 32 - n = omega arith in rw (e, d) refl
+
+-- the library's bytes of a number, in either order, are the papers', for every width
+byte_is : (i n : ℕ) → byte_at i n ≡ n / 256 ^ i % 256
+byte_is zero n = ap (λ (k : ℕ). k % 256) (sym (div-one n))
+byte_is (suc i) n = refl
+
+low_from : (k i n : ℕ) → bytes_low_first i k n ≡ le k (n / 256 ^ i)
+unfolding le
+low_from zero i n = refl
+low_from (suc k) i n =
+    let deeper : n / 256 ^ suc i ≡ n / 256 ^ i / 256 = rw (pow-suc 256 i) (sym (div-div-eq-div-mul n (256 ^ i) 256)) in
+    ap₂ ◌∷◌ (byte_is i n) (low_from k (suc i) n ∙ ap (le k) deeper)
+
+pub low_first : (k n : ℕ) → bytes_low_first 0 k n ≡ le k n
+low_first k n = low_from k 0 n ∙ ap (le k) (div-one n)
+
+be-front : (k n : ℕ) → be (suc k) n ≡ n / 256 ^ k % 256 ∷ be k n
+unfolding be
+be-front zero n = ap (λ (m : ℕ). m % 256 ∷ []) (sym (div-one n))
+be-front (suc k) n =
+    let deeper : n / 256 / 256 ^ k ≡ n / 256 ^ suc k = div-div-eq-div-mul n 256 (256 ^ k) ∙ ap (λ (m : ℕ). n / m) (mul_comm 256 (256 ^ k) ∙ sym (pow-suc 256 k)) in
+    rw (be-front k (n / 256), deeper) refl
+
+pub high_first : (k n : ℕ) → bytes_high_first k n ≡ be k n
+unfolding be
+high_first zero n = refl
+high_first (suc k) n = ap₂ ◌∷◌ (byte_is k n) (high_first k n) ∙ sym (be-front k n)

@@ -4,7 +4,7 @@
 // writes and in what reads (docs/DECISIONS.md, "The ground").
 #![tactic(auto)]
 
-ghost use Rattle.std.specs.Prelude.{◌≡◌, ◌+◌, ◌-◌, ◌*◌, ◌++◌, ◌^◌, ◌<◌, ◌≤◌, ℕ, List, length, get_or};
+ghost use Rattle.std.specs.Prelude.{◌≡◌, ◌+◌, ◌-◌, ◌*◌, ◌++◌, ◌≤◌, ℕ, List, length, get_or};
 ghost use Rattle.std.proofs.lemmas.List.Edits.{sets};
 ghost use Rattle.lent.specs.Bytes.{part, Apart, zeros, tab, joined, xors, eqs};
 ghost use Rattle.lent.specs.Word.{plus, le, be, of_le, of_be};

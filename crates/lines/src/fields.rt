@@ -1,5 +1,5 @@
 // What the words of a line say. A word that says nothing makes the line malformed.
-ghost use Rattle.std.specs.Prelude.{◌≡◌, ◌*◌, ◌≤◌, ◌<◌, length, IfSome, IfOk};
+ghost use Rattle.std.specs.Prelude.{◌≤◌, ◌<◌, length, IfSome, IfOk};
 
 use crate::fault::Fault;
 

@@ -4,7 +4,6 @@
 ghost use Rattle.std.specs.Prelude.{◌≡◌, ◌+◌, ◌*◌, ◌/◌, ◌%◌, ◌≤◌, ◌<◌, length};
 ghost use Rattle.std.proofs.lemmas.List.Edits.{sets};
 ghost use Rattle.lent.specs.Bytes.{part, Apart, xors};
-ghost use Rattle.salsa.specs.Salsa.{words, bytes};
 ghost use Rattle.mixing.specs.BlockMix.{block_mix};
 
 // Sixteen words exclusive or sixteen others.

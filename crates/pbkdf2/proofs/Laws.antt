@@ -1,9 +1,7 @@
 -- Laws of HMAC and PBKDF2: what is made from saved hash values is what the RFCs say; a shorter key is the start of a longer one;
 -- a passphrase of at most 63 bytes and the same with a zero byte added give one key.
 -- Assumes nothing.
-use Rattle.std.proofs.Common.{◌≡◌, ℕ, zero, suc, ◌+◌, ◌-◌, ◌*◌, ◌/◌, ◌≤◌, ◌<◌, List, [], ◌∷◌, ◌++◌, length, take, drop, replicate, map, bit_xor, refl, sym, ap, ap₂, subst, ◌∙◌, append_assoc, add-zero, add-suc, add-one, arith, length-append, length-take-le, take-append-drop, take_all, take-take, take_at, drop-cons, drop_of_length-le}
-use denote.Param.Members.{Mut, Called}
-use Rattle.std.specs.Array.{MapsFrom, IsMapOf}
+use Rattle.std.proofs.Common.{◌≡◌, ℕ, zero, suc, ◌+◌, ◌-◌, ◌*◌, ◌/◌, ◌≤◌, ◌<◌, List, [], ◌∷◌, ◌++◌, length, take, drop, replicate, map, bit_xor, refl, sym, ap, ◌∙◌, append_assoc, add-zero, add-suc, arith, length-append, length-take-le, take-append-drop, take_all, take-take, take_at}
 use native.Mathlib.Nat.{add_assoc}
 use native.Mathlib.Decide.{dec_le}
 use borrow.Author.Tests.{le-leb, lt-leb}
@@ -42,20 +40,7 @@ length-masked : (K : List ℕ) (pad : ℕ) → length (masked (block K) pad) ≡
 unfolding masked
 length-masked K pad = length-xors (block K) (replicate 64 pad) (length-block K ∙ sym (length-replicate 64 pad)) ∙ length-block K
 
--- byte by byte, as the library's map of an array with a closure that each call leaves as it was
-
-module _ {F : Type 0} (g : Mut F (ℕ × Unit {0}) ℕ) (h : ℕ → ℕ) (f : F) (step : (x y : ℕ) (q : F) → Called g f (x, tt) y q → (y ≡ h x) × (q ≡ f)) where
-  mapped_from : (n : ℕ) (xs ys : List ℕ) (p : F) (i : ℕ) → p ≡ f → length xs ≡ i + n → length ys ≡ i + n → MapsFrom g p xs ys i n → drop i ys ≡ map h (drop i xs)
-  mapped_from zero xs ys p i e long as_long t = rw (drop_of_length-le xs {i = i} (omega arith), drop_of_length-le ys {i = i} (omega arith)) refl
-  mapped_from (suc n) xs ys p i e long as_long t =
-      let one = step t.1 t.2 t.0 (subst (λ (k : F). Called g k (t.1, tt) t.2 t.0) e t.5) in
-      drop-cons ys i 0 (omega arith)
-      ∙ ap₂ ◌∷◌ (t.4.1 0 ∙ one.0 ∙ ap h (sym (t.3.1 0))) (ap (λ (k : ℕ). drop k ys) (sym (add-one i)) ∙ mapped_from n xs ys t.0 (i + 1) one.1 (omega arith) (omega arith) t.6 ∙ ap (λ (k : ℕ). map h (drop k xs)) (add-one i))
-      ∙ ap (map h) (sym (drop-cons xs i 0 (omega arith)))
-
-  pub mapped : (n : ℕ) (xs ys : List ℕ) → length xs ≡ n → IsMapOf g f xs ys n → ys ≡ map h xs
-  mapped n xs ys e made = mapped_from n xs ys f 0 refl (omega arith) (omega (arith, made.long)) made.each
-
+-- byte by byte, as the library's map makes it
 pub masked_map : (K : List ℕ) (pad : ℕ) → length K ≡ 64 → masked K pad ≡ map (λ b. bit_xor b pad) K
 unfolding masked xors
 masked_map K pad h = ap (λ (n : ℕ). xors K (replicate n pad)) (sym h) ∙ go K

@@ -2,7 +2,6 @@
 -- Assumes nothing.
 use Rattle.std.proofs.Common.{◌≡◌, ℕ, zero, suc, ◌+◌, ◌-◌, ◌*◌, ◌/◌, ◌%◌, ◌≤◌, ◌<◌, List, [], ◌∷◌, ◌++◌, length, get_or, set, take, drop, refl, sym, ap, ◌∙◌, append_assoc, append-nil, add-one, add-zero, add-suc, one-add, arith, length-append, length-drop, length-take-le, take-append-drop, take-take, take-suc, take_all, get_or-take, get_or-set_same}
 use native.Mathlib.Decide.{dec_le}
-use Rattle.std.specs.Int.{w64, to_be_bytes}
 use Rattle.std.specs.List.{fold}
 use Rattle.std.specs.Simd.{first_chunks}
 use borrow.Author.Tests.{lt-ltb, le-ltb}
@@ -206,18 +205,6 @@ bytes_stored room h n k =
     let all : bytes h ≡ joined 8 (λ i. be 4 (get_or h i 0)) = ap bytes (sym (take_all 8 h (omega arith))) ∙ bytes-take h 8 (omega arith) in
     let long : length (bytes h) ≡ length room = rw length-bytes (omega arith) in
     rw (← all) (sets_all room (bytes h) long)
-
--- the library's eight bytes of a number are the standard's
-pub be_eight : (x : ℕ) → be 8 x ≡ to_be_bytes w64 x
-unfolding be
-be_eight x =
-    let two : x / 256 / 256 ≡ x / 65536 = omega arith in
-    let three : x / 65536 / 256 ≡ x / 16777216 = omega arith in
-    let four : x / 16777216 / 256 ≡ x / 4294967296 = omega arith in
-    let five : x / 4294967296 / 256 ≡ x / 1099511627776 = omega arith in
-    let six : x / 1099511627776 / 256 ≡ x / 281474976710656 = omega arith in
-    let seven : x / 281474976710656 / 256 ≡ x / 72057594037927936 = omega arith in
-    rw (two, three, four, five, six, seven) refl
 
 -- ---- padding, as the code writes it behind the last bytes m of a message, over zeros
 

@@ -2,7 +2,7 @@
 // a caller keeps the value after the whole blocks that it has absorbed and closes the hash with the rest.
 #![tactic(auto)]
 
-ghost use Rattle.std.specs.Prelude.{◌≡◌, ◌++◌, ◌+◌, ◌-◌, ◌*◌, ◌/◌, ◌%◌, ◌^◌, ◌≤◌, ◌<◌, length};
+ghost use Rattle.std.specs.Prelude.{◌≡◌, ◌++◌, ◌+◌, ◌-◌, ◌*◌, ◌/◌, ◌%◌, ◌^◌, ◌<◌, length};
 ghost use Rattle.lent.specs.Word.{plus};
 ghost use Rattle.sha256.specs.Sha256.{Ch, Maj, Σ₀, Σ₁, σ₀, σ₁, H₀, padding, schedule, round, rounds, compress, absorb, bytes, closed, sha256};
 
@@ -68,8 +68,7 @@ fn next(w2: u32, w7: u32, w15: u32, w16: u32) -> u32
         .wrapping_add(w16)
 }
 
-// The whole schedule. One loop, as the standard defines a word by its place: sixteen words that are loaded first and then
-// copied are slower (docs/MEASURED.md).
+// The whole schedule: one loop, as the standard defines a word by its place.
 fn schedule(block: &[u8; 64]) -> [u32; 64]
     ensures { result ≡ schedule block.now 64 }
 {

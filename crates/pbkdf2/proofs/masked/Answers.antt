@@ -1,6 +1,7 @@
 -- `pbkdf2::masked` meets its contract: the library's map takes every byte to the masked one.
 use Rattle.std.proofs.Common.{rules, ◌≡◌, length, ◌∙◌, sym, bit_xor}
-use Rattle.pbkdf2.proofs.Laws.{mapped, masked_map}
+use Rattle.lent.proofs.Arrays.{mapped}
+use Rattle.pbkdf2.proofs.Laws.{masked_map}
 use Rattle.pbkdf2.proofs.masked.Goals as goal
 
 pub returns : goal.returns

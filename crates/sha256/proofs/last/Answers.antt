@@ -2,12 +2,13 @@
 use Rattle.std.proofs.Common.{◌≡◌, ◌*◌, sym, ◌∙◌, ap, arith}
 use Rattle.lent.specs.Word.{be}
 use Rattle.sha256.specs.Sha256.{absorb}
-use Rattle.sha256.proofs.Laws.{be_eight, laid_out}
+use Rattle.lent.proofs.Words.{high_first}
+use Rattle.sha256.proofs.Laws.{laid_out}
 use Rattle.sha256.proofs.last.Goals as goal
 
 pub returns : goal.returns
 returns c =
     let a = c.args in
     let m = a.rest.now in
-    let bits : c.to_be_bytes.result ≡ be 8 (8 * a.total) = c.to_be_bytes.ensures ∙ sym (be_eight (8 * a.total)) in
+    let bits : c.to_be_bytes.result ≡ be 8 (8 * a.total) = c.to_be_bytes.ensures ∙ high_first 8 (8 * a.total) in
     rw (c.absorb.ensures, c.copy.ensures, bits, c.padded-b.ensures) (ap (absorb a.h) (laid_out 128 m a.total (omega arith) c.requires.0 c.requires.1))
