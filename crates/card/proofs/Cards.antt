@@ -2,7 +2,7 @@
 -- writing what it says would make.
 -- Assumes nothing.
 use mathlib.Core.Path.{◌≡◌, refl, sym, ap, ◌∙◌}
-use mathlib.Core.Bool.{true, and-false, and-eq-true_iff}
+use mathlib.Core.Bool.{true, false, and-false, and-eq-true_iff}
 use mathlib.Core.List.{List, ◌++◌, append_assoc}
 use Prim.Native.Nat.{ℕ, ◌+◌, ◌-◌, ◌≤◌, ◌<◌}
 use native.Mathlib.Omega.{arith}
@@ -50,10 +50,13 @@ meant_means salt key e r p h =
     let costs = pick-passed number (ok_costs e r p) _ (refused 25) (lit< tt) lengths.1 in
     record { lengths = lengths.0; costs = costs.0 }
 
+pub lengths_none : (salt key : ℕ) → salt ≡ 0 → ok_lengths salt key ≡ false
+lengths_none salt key h = rw h (and-false (from_to 16 64 key))
+
 -- a salt that would begin inside the key
 pub meant_none : (back key e r p : ℕ) → back < key → meant_of (back - key) key e r p ≡ refused 24
 unfolding meant_of
-meant_none back key e r p h = let none : back - key ≡ 0 = omega arith in rw (none, and-false (from_to 16 64 key))
+meant_none back key e r p h = rw (lengths_none (back - key) key (omega arith))
 
 -- ---- 23 to 25, by the trailer
 

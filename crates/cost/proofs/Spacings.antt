@@ -104,9 +104,16 @@ pub searched_first : (N p F : ℕ) → Searched N p F 1
 unfolding spacing
 searched_first N p F = record { left = 64; same = refl; power = refl; some = omega arith }
 
--- while nothing fits, k is below N
-pub searched_more : (N p F k : ℕ) → Searched N p F k → N < 2 ^ 62 → p + 4 ≤ F → F < N / k + p + 3 → Searched N p F (k * 2)
-searched_more N p F k was small room full = go was.left was.same was.power
+pub searched_more : (N p F k : ℕ) → Searched N p F k → fits N p F k ≡ false → k < 2 ^ 62 → Searched N p F (k * 2)
+searched_more N p F k was miss small = go was.left was.same was.power
+  where
+    go : (left : ℕ) → first_fit left N p F k ≡ spacing N p F → k * 2 ^ left ≡ 2 ^ 64 → Searched N p F (k * 2)
+    go zero same power = absurd (omega (arith, power, mul-one k))
+    go (suc left) same power = record { left = left; same = sym (fit_later left N p F k miss) ∙ same; power = twice k left ∙ power; some = omega (arith, was.some) }
+
+-- the same by the test as the code has it: while nothing fits, k is below N
+pub searched_on : (N p F k : ℕ) → Searched N p F k → N < 2 ^ 62 → p + 4 ≤ F → F < N / k + p + 3 → Searched N p F (k * 2)
+searched_on N p F k was small room full = searched_more N p F k was (lt-leb _ _ full) (omega (arith, low))
   where
     low : k < N
     low =
@@ -115,9 +122,4 @@ searched_more N p F k was small room full = go was.left was.same was.power
           | no before ↦ omega arith
         ]
 
-    go : (left : ℕ) → first_fit left N p F k ≡ spacing N p F → k * 2 ^ left ≡ 2 ^ 64 → Searched N p F (k * 2)
-    go zero same power = absurd (omega (arith, power, mul-one k, low))
-    go (suc left) same power =
-        record { left = left; same = sym (fit_later left N p F k (lt-leb _ _ full)) ∙ same; power = twice k left ∙ power; some = omega (arith, was.some) }
-
-pub ruleset turns = (searched_first, searched_more, fit_here)
+pub ruleset turns = (searched_first, searched_on, fit_here)

@@ -9,12 +9,14 @@ ghost use Rattle.std.proofs.lemmas.List.Edits.{sets};
 ghost use Rattle.lent.specs.Bytes.{part, Apart, zeros, tab, joined, xors, eqs};
 ghost use Rattle.lent.specs.Word.{plus, le, be, of_le, of_be};
 
-// Writes src into s from place at on.
+// Writes src into s from place at on. No `copy_from_slice`: by it the library for C wants `memmove` of whoever links it.
 pub fn copy(s: &mut [u8], at: usize, src: &[u8])
     requires { at + length src.now ≤ length s.old }
     ensures { s.new ≡ sets s.old at src.now }
 {
-    s[at..at + src.len()].copy_from_slice(src);
+    for i in 0..src.len() {
+        s[at + i] = src[i];
+    }
 }
 
 // Writes the n bytes at place from over those at place to, which lie apart.

@@ -25,11 +25,15 @@ fn block(key: &[u8]) -> [u8; 64]
     lent::padded(&sha256::hash(key))
 }
 
-// The block with every byte masked by the same one.
+// The block with every byte masked by the same one. No `map`: with it a code takes a third more time (docs/MEASURED.md).
 fn masked(k: [u8; 64], pad: u8) -> [u8; 64]
     ensures { result ≡ masked k pad }
 {
-    k.map(|b| b ^ pad)
+    let mut b = [0u8; 64];
+    for i in 0..64 {
+        b[i] = k[i] ^ pad;
+    }
+    b
 }
 
 // The hash value after the masked block.

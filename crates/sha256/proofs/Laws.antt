@@ -195,10 +195,14 @@ unfolding sha256 closed
 bytes-sha256 m = bytes-bytes (absorb H₀ (m ++ padding (length m)))
 
 -- as they are written, word by word
+pub bytes-more : (h : List ℕ) (j : ℕ) → j < length h → bytes (take (j + 1) h) ≡ bytes (take j h) ++ be 4 (get_or h j 0)
+unfolding bytes
+bytes-more h j k = rw (add-one, take-suc h j 0 k, bytes_join, append-nil)
+
 bytes-take : (h : List ℕ) (n : ℕ) → n ≤ length h → bytes (take n h) ≡ joined n (λ i. be 4 (get_or h i 0))
 unfolding bytes joined
 bytes-take h zero k = refl
-bytes-take h (suc n) k = rw (take-suc h n 0 (omega arith), bytes_join, append-nil, bytes-take h n (omega arith))
+bytes-take h (suc n) k = rw (← add-one n, bytes-more h n (omega arith), bytes-take h n (omega arith))
 
 pub bytes_stored : (room h : List ℕ) → length room ≡ 32 → length h ≡ 8 → sets room 0 (joined 8 (λ i. be 4 (get_or h i 0))) ≡ bytes h
 bytes_stored room h n k =

@@ -1,5 +1,5 @@
 // Which call a line is.
-use crate::rooms::{FIRST, Rooms, SECOND};
+use crate::rooms::Rooms;
 use crate::{desks, hashes, mixes};
 use lines::fault::Fault;
 use std::io;
@@ -33,7 +33,7 @@ const WORDS: usize = 10;
 
 // Runs the call that a line is. Its words stand in an array since nothing is allocated for the program
 // (docs/DECISIONS.md).
-fn run_line(rt: &impl Print, line: &[u8]) -> Result<(), Fault> {
+fn run_line(rt: &impl Print, rooms: &mut Rooms, line: &[u8]) -> Result<(), Fault> {
     let mut words = [b"".as_slice(); WORDS];
     let split = line.split(|b| *b == b' ');
     let n = words
@@ -41,16 +41,12 @@ fn run_line(rt: &impl Print, line: &[u8]) -> Result<(), Fault> {
         .zip(split)
         .map(|(to, word)| *to = word)
         .count();
-    let mut rooms = Rooms {
-        first: [0; FIRST],
-        second: [0; SECOND],
-    };
-    run(rt, &mut rooms, &words[..n])
+    run(rt, rooms, &words[..n])
 }
 
 // Answers a line, or says that it is malformed.
-pub fn answer(rt: &impl Print, line: &[u8]) -> io::Result<()> {
-    match run_line(rt, line) {
+pub fn answer(rt: &impl Print, rooms: &mut Rooms, line: &[u8]) -> io::Result<()> {
+    match run_line(rt, rooms, line) {
         Ok(()) => Ok(()),
         Err(Fault::Malformed) => println!(rt; "malformed"),
         Err(Fault::Io(e)) => Err(e),

@@ -8,6 +8,7 @@ mod hashes;
 mod mixes;
 mod rooms;
 
+use rooms::{FIRST, Rooms, SECOND};
 use std::io;
 use std::io::Read;
 
@@ -16,18 +17,22 @@ fn is_case(line: &[u8]) -> bool {
     line.first().is_some_and(|b| *b != b'#')
 }
 
-fn answer(rt: &impl Print, line: &[u8]) -> io::Result<()> {
+fn answer(rt: &impl Print, rooms: &mut Rooms, line: &[u8]) -> io::Result<()> {
     if is_case(line) {
-        return calls::answer(rt, line);
+        return calls::answer(rt, rooms, line);
     }
     rt.write_all(line)?;
     println!(rt;)
 }
 
-// The last line may lack its end.
+// The last line may lack its end. The rooms are made once and for no line anew, since a malformed one needs none.
 fn answer_all(rt: &impl Print, input: &[u8]) -> io::Result<()> {
+    let mut rooms = Rooms {
+        first: [0; FIRST],
+        second: [0; SECOND],
+    };
     for line in input.split_inclusive(|b| *b == b'\n') {
-        answer(rt, line.strip_suffix(b"\n").unwrap_or(line))?;
+        answer(rt, &mut rooms, line.strip_suffix(b"\n").unwrap_or(line))?;
     }
     Ok(())
 }

@@ -15,6 +15,7 @@ mod archive;
 pub const TESTS: &[Test] = &[
     ("the archive's processor and sources", linked),
     ("archives that must not be linked", wrong),
+    ("what the archive wants of whoever links it", wants),
     ("a module for another processor", module),
     ("a processor that is neither", neither),
 ];
@@ -118,6 +119,17 @@ fn wrong(_: &mut Random) -> Said {
     assert_eq!(told(&archive, &record.replace(ARCH, other)), "its record has another processor");
     assert_eq!(told(&archive, ""), "its record has another processor");
     Said::Tried("8 archives and 4 records, each refused for its own reason".into())
+}
+
+/// Two names that every C library has, and no third: a program that brings those itself links without one.
+fn wants(_: &mut Random) -> Said {
+    let told =
+        Command::new("nm").arg("-u").arg(env!("RINNAMOYLE_ARCHIVE")).output().expect("nm, of the C compiler's own");
+    assert!(told.status.success(), "{}", words(&told));
+    let said = words(&told);
+    let names: Vec<&str> = said.lines().filter_map(|line| line.trim().strip_prefix("U ")).collect();
+    assert_eq!(names, ["memcpy", "memset"]);
+    Said::Tried(names.join(" and "))
 }
 
 /// What `aarch64/module.awk` makes of a module.
