@@ -1,13 +1,13 @@
 -- Laws of HMAC and PBKDF2: what is made from saved hash values is what the RFCs say; a shorter key is the start of a longer one;
 -- a passphrase of at most 63 bytes and the same with a zero byte added give one key.
 -- Assumes nothing.
-use Rattle.std.proofs.Common.{◌≡◌, ℕ, zero, suc, ◌+◌, ◌-◌, ◌*◌, ◌/◌, ◌≤◌, ◌<◌, List, [], ◌∷◌, ◌++◌, length, take, drop, replicate, map, bit_xor, refl, sym, ap, ◌∙◌, append_assoc, add-zero, add-suc, arith, length-append, length-take-le, take-append-drop, take_all, take-take, take_at}
+use Rattle.std.proofs.Common.{◌≡◌, ℕ, zero, suc, ◌+◌, ◌-◌, ◌*◌, ◌/◌, ◌≤◌, ◌<◌, List, [], ◌∷◌, ◌++◌, length, take, drop, replicate, refl, sym, ap, ◌∙◌, append_assoc, add-zero, add-suc, arith, length-append, length-take-le, take-append-drop, take_all, take-take, take_at}
 use native.Mathlib.Nat.{add_assoc}
 use native.Mathlib.Decide.{dec_le}
 use borrow.Author.Tests.{le-leb, lt-leb}
 use lib.ListN.{length-replicate}
 use lib.Seq.{sets, take-append-le, take-append-add}
-use Rattle.lent.specs.Bytes.{Bytes, zeros, joined, xors}
+use Rattle.lent.specs.Bytes.{Bytes, zeros, joined}
 use Rattle.lent.specs.Word.{be}
 use Rattle.lent.proofs.Parts.{sets-front, sets_all, take-sets}
 use Rattle.lent.proofs.Tabs.{length-xors}
@@ -39,15 +39,6 @@ length-block K =
 length-masked : (K : List ℕ) (pad : ℕ) → length (masked (block K) pad) ≡ 64
 unfolding masked
 length-masked K pad = length-xors (block K) (replicate 64 pad) (length-block K ∙ sym (length-replicate 64 pad)) ∙ length-block K
-
--- byte by byte, as the library's map makes it
-pub masked_map : (K : List ℕ) (pad : ℕ) → length K ≡ 64 → masked K pad ≡ map (λ b. bit_xor b pad) K
-unfolding masked xors
-masked_map K pad h = ap (λ (n : ℕ). xors K (replicate n pad)) (sym h) ∙ go K
-  where
-    go : (l : List ℕ) → xors l (replicate (length l) pad) ≡ map (λ b. bit_xor b pad) l
-    go [] = refl
-    go (x ∷ l) = rw (go l)
 
 -- zeros follow a key of less than a block, so one zero byte more in the key changes nothing
 block_zero : (K : List ℕ) → length K < 64 → block (K ++ (0 ∷ [])) ≡ block K

@@ -25,7 +25,7 @@ fn answer(rt: &impl Print, rooms: &mut Rooms, line: &[u8]) -> io::Result<()> {
     println!(rt;)
 }
 
-// The last line may lack its end. The rooms are made once, since a malformed line needs none (docs/DECISIONS.md).
+// The last line may lack its end. The rooms are made once and not for each line (docs/DECISIONS.md).
 fn answer_all(rt: &impl Print, input: &[u8]) -> io::Result<()> {
     let mut rooms = Rooms {
         first: [0; FIRST],

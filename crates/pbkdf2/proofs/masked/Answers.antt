@@ -1,5 +1,5 @@
 -- `pbkdf2::masked` meets its contract: the loop stores the masked bytes in order.
-use Rattle.std.proofs.Common.{rules, ◌≡◌, length, ℕ, refl, sym, ap, ◌∙◌, get_or, replicate}
+use Rattle.std.proofs.Common.{rules, ◌≡◌, length, refl, sym, ap, ◌∙◌, get_or, replicate}
 use lib.Bits.{bit_xor}
 use lib.ListN.{get_or-replicate}
 use Rattle.lent.specs.Bytes.{tab}

@@ -1,5 +1,5 @@
 -- `sha256::last` meets its contract: the writes lay the padded message out from the front.
-use Rattle.std.proofs.Common.{◌≡◌, ◌*◌, sym, ◌∙◌, ap, arith}
+use Rattle.std.proofs.Common.{◌≡◌, ◌*◌, ◌∙◌, ap, arith}
 use Rattle.lent.specs.Word.{be}
 use Rattle.sha256.specs.Sha256.{absorb}
 use Rattle.lent.proofs.Words.{high_first}
