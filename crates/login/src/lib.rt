@@ -48,7 +48,7 @@ impl From<scrypt::Reason> for Desk {
     }
 }
 
-// Three cases, the form that document 01 names (docs/DECISIONS.md), and so no Result.
+// Three cases, the form that docs/DECISIONS.md names, and so no Result.
 #[derive(Clone, Copy, Debug, PartialEq, Eq)]
 pub enum Login {
     Yes,

@@ -25,7 +25,7 @@ fn block(key: &[u8]) -> [u8; 64]
     lent::padded(&sha256::hash(key))
 }
 
-// The block with every byte masked by the same one. No `map`: with it a code takes up to a third more time (docs/LOOK-BACK.md).
+// The block with every byte masked by the same one. No `map`, which is slower (docs/LOOK-BACK.md).
 fn masked(k: [u8; 64], pad: u8) -> [u8; 64]
     ensures { result ≡ masked k pad }
 {

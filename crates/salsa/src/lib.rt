@@ -52,7 +52,7 @@ fn rows(x: [u32; 16]) -> [u32; 16]
     quarter(y, 15, 12, 13, 14)
 }
 
-// The Salsa20/8 core: four double rounds, one to the next, the form that document 01 names.
+// The Salsa20/8 core: four double rounds, one to the next, the form that docs/DECISIONS.md names.
 #[tactic(auto, unfolding(crate::specs::Salsa::salsa, crate::specs::Salsa::doubles, crate::specs::Salsa::added))]
 pub fn core(x: [u32; 16]) -> [u32; 16]
     ensures { result ≡ salsa 8 x }

@@ -98,8 +98,8 @@ fn round(v: &mut [u32; 8], k: u32, w: u32)
     *v = [t1.wrapping_add(t2), a, b, c, d.wrapping_add(t1), e, f, g];
 }
 
-// The 64 rounds. The table is indexed by the round, the form that document 01 names, and is a local: read from the constant
-// inside the loop it would be laid out anew at each turn.
+// The 64 rounds. The table is indexed by the round, the form that docs/DECISIONS.md names, and is a local: read from the
+// constant inside the loop it would be laid out anew at each turn.
 fn rounds(v: [u32; 8], w: &[u32; 64]) -> [u32; 8]
     ensures { result ≡ rounds 64 w.now v }
 {
